@@ -1,0 +1,48 @@
+-- Triangulations of a point set, over membership of segments. (Textbook.)
+use Rattle.std.specs.Prelude.{◌≡◌, ◌≢◌, ℕ, ◌<◌, ◌+◌, ◌*◌, ◌↔◌, List, length, pos, ◌<ℤ◌, ◌≤ℤ◌}
+use Rattle.std.specs.List.{AllPairs}
+use Rattle.plane.specs.declared.coordinates.Point.{Point}
+use Rattle.plane.specs.declared.segment.Pair.{Pair}
+use Rattle.plane.specs.Geometry.{orientation, IsBorderPair}
+use Rattle.partition_defs.specs.Partition.{Joins, AreWithin, AreClear, ArePlane, HasBorder}
+
+-- s lies in the closed triangle p q r, whose corners are counterclockwise
+abbrev pub IsInTriangle : List Point → (p q r s : ℕ) → Type 0
+IsInTriangle S p q r s =
+  (pos 0 ≤ℤ orientation S p q s) × (pos 0 ≤ℤ orientation S q r s) × (pos 0 ≤ℤ orientation S r p s)
+
+-- the closed triangle p q r has no further point
+abbrev pub IsEmptyTriangle : List Point → (p q r : ℕ) → Type 0
+IsEmptyTriangle S p q r = (s : ℕ) → s < length S → s ≢ p → s ≢ q → s ≢ r → ¬ IsInTriangle S p q r s
+
+-- r is the apex of p to q: with them it spans an empty triangle of the set, on the left
+abbrev pub IsApex : List Point → List Pair → (p q r : ℕ) → Type 0
+IsApex S T p q r =
+  (r < length S) × Joins T p r × Joins T q r × (pos 0 <ℤ orientation S p q r) × IsEmptyTriangle S p q r
+
+-- some point is strictly left of the line from p to q
+abbrev pub HasLeft : List Point → (p q : ℕ) → Type 0
+HasLeft S p q = (s : ℕ) × (s < length S) × (pos 0 <ℤ orientation S p q s)
+
+-- a triangulation
+pub record IsTriangulation (S : List Point) (T : List Pair) : Type 0 where
+  pub within : AreWithin S T
+  pub clear : AreClear S T
+  pub plane : ArePlane S T
+  pub border : HasBorder S T
+  pub met : (p : ℕ) → p < length S → (q : ℕ) × (q < length S) × Joins T p q
+  pub apex : (p q : ℕ) → Joins T p q → HasLeft S p q → (r : ℕ) × IsApex S T p q r
+
+-- no segment stands twice
+abbrev pub AreDistinct : List Pair → Type 0
+AreDistinct K = AllPairs (λ e f. e ≢ f) K
+
+-- a list of exactly the border pairs, each once
+pub record IsBorderList (S : List Point) (B : List Pair) : Type 0 where
+  pub within : AreWithin S B
+  pub distinct : AreDistinct B
+  pub exact : (i j : ℕ) → i < j → j < length S → Joins B i j ↔ IsBorderPair S i j
+
+-- as many segments as a triangulation has: three times the points, less three, less the border pairs
+abbrev pub HasTriangulationCount : List Point → List Pair → Type 0
+HasTriangulationCount S T = (B : List Pair) → IsBorderList S B → length T + length B + 3 ≡ 3 * length S

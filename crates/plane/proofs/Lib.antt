@@ -1,0 +1,2 @@
+pub mod Determinant
+pub mod Wide

@@ -1,0 +1,45 @@
+// Accepted point sets.
+ghost use Rattle.std.specs.Prelude.{◌≡◌, ◌<◌, length, IfOk, IfErr};
+ghost use Rattle.plane.specs.Geometry.{point};
+ghost use Rattle.plane.specs.Accepted.{AreAccepted, IsFault, IsNear};
+
+use crate::coordinates::Point;
+use std::marker::Model;
+
+/// An accepted point set: 3 to 5,000 points within the limit, no two equal, not all on one line. Contracts see the list
+/// of points, by index.
+#[derive(Drop)]
+pub struct Points {
+    list: Vec<Point>,
+}
+
+impl Model for Points {
+    ghost use Rattle.std.specs.Prelude.{List};
+    ghost use Rattle.plane.specs.declared.coordinates.Point.{Point};
+    ghost use Rattle.plane.specs.Accepted.{AreAccepted};
+
+    ghost Value = { List Point };
+
+    ghost view = { λ a. a.list.items };
+
+    ghost invariant = { λ a. AreAccepted a.list.items };
+}
+
+impl Points {
+    /// How many points there are.
+    pub fn len(&self) -> u32
+        ensures count { result ≡ length self.now }
+        ensures accepted { AreAccepted self.now }
+    {
+        self.list.len() as u32
+    }
+
+    /// The point with this index.
+    pub fn at(&self, i: u32) -> Point
+        requires { i < length self.now }
+        ensures point { result ≡ point self.now i }
+        ensures near { IsNear result }
+    {
+        self.list[i as usize]
+    }
+}

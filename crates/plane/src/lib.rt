@@ -1,0 +1,13 @@
+//! Points in the plane and the exact tests on them. It alone knows coordinates: the crates above name points by their
+//! index and ask for orientation, betweenness, crossing, border and need.
+#![tactic(auto)]
+
+mod accepted;
+mod coordinates;
+mod kernel;
+mod predicates;
+mod segment;
+
+pub use accepted::Points;
+pub use coordinates::{BadPoints, COORDINATE_LIMIT, FEWEST_POINTS, MOST_POINTS, Point, Turn};
+pub use segment::{Pair, PairList};

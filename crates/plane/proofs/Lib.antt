@@ -1,2 +1,3 @@
 pub mod Determinant
 pub mod Wide
+pub mod Line

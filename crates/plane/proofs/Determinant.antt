@@ -86,7 +86,7 @@ zero_factor (negsuc m) (pos zero) h = inr refl
 zero_factor (negsuc m) (pos (suc n)) h = absurd (grind arith)
 zero_factor (negsuc m) (negsuc n) h = absurd (grind arith)
 
-swap_middle : (a b c : ℤ) → a *ℤ (b *ℤ c) ≡ b *ℤ (a *ℤ c)
+pub swap_middle : (a b c : ℤ) → a *ℤ (b *ℤ c) ≡ b *ℤ (a *ℤ c)
 swap_middle a b c = sym (mul_assoc a b c) ∙ ap (λ x. x *ℤ c) (*ℤ_comm a b) ∙ mul_assoc b a c
 
 -- the cross product of two steps

@@ -4,3 +4,4 @@ pub mod Line
 pub mod Signs
 pub mod Area
 pub mod Along
+pub mod Outermost

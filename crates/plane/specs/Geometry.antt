@@ -38,7 +38,7 @@ AreOpposite y z = ((y <ℤ pos 0) × (pos 0 <ℤ z)) ⊎ ((pos 0 <ℤ y) × (z <
 -- the segments a-b and c-d cross: each has its ends strictly on the two sides of the other's line
 abbrev pub AreCrossing : List Point → (a b c d : ℕ) → Type 0
 AreCrossing S a b c d =
-  AreOpposite (orientation S a b c) (orientation S a b d) × AreOpposite (orientation S c d a) (orientation S c d b)
+    AreOpposite (orientation S a b c) (orientation S a b d) × AreOpposite (orientation S c d a) (orientation S c d b)
 
 -- no point is strictly between i and j
 abbrev pub IsClear : List Point → (i j : ℕ) → Type 0

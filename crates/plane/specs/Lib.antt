@@ -2,3 +2,4 @@ pub mod First
 pub mod Geometry
 pub mod Accepted
 pub mod Making
+pub mod Hull

@@ -4,6 +4,7 @@
 
 mod accepted;
 mod coordinates;
+mod hull;
 mod kernel;
 mod making;
 mod predicates;

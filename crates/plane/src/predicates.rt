@@ -54,7 +54,10 @@ impl Points {
         requires f_in { f.hi < length self.now }
         ensures { IsTrue result ↔ AreOpposite (orientation self.now e.lo e.hi f.lo) (orientation self.now e.lo e.hi f.hi) }
     {
-        are_opposite(self.area(e.lo(), e.hi(), f.lo()), self.area(e.lo(), e.hi(), f.hi()))
+        are_opposite(
+            self.area(e.lo(), e.hi(), f.lo()),
+            self.area(e.lo(), e.hi(), f.hi()),
+        )
     }
 
     /// Whether `r` is in the need of `p` for `q`: strictly left of the line from `p` to `q`, or with `p` strictly between

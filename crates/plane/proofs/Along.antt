@@ -1,17 +1,14 @@
 -- Points along one line: which lies between which, and on which side of them another point lies.
-use Rattle.std.proofs.Common.{◌≡◌, ◌≢◌, ℤ, pos, ◌+ℤ◌, ◌-ℤ◌, ◌*ℤ◌, ◌<ℤ◌, ◌⊎◌, inl, inr, arith, sym, ◌∙◌, ap}
+use Rattle.std.proofs.Common.{◌≡◌, ◌≢◌, ℤ, pos, ◌+ℤ◌, ◌-ℤ◌, ◌*ℤ◌, ◌<ℤ◌, ◌≤ℤ◌, ◌⊎◌, inl, inr, arith, sym, ◌∙◌, ap}
 use Rattle.std.proofs.lemmas.Int.{ints}
 use Rattle.std.proofs.Math.IntN.{*ℤ_comm}
 use Rattle.plane.specs.declared.coordinates.Point.{Point}
-use Rattle.plane.specs.Geometry.{area, scalar, AreOpposite}
+use Rattle.plane.specs.Geometry.{area, scalar, AreOpposite, LiesBetween}
+use Rattle.plane.specs.Ranges.{IsInRange}
 use Rattle.plane.proofs.Determinant.{mul_difference, swap_middle, zero_factor}
 use Rattle.plane.proofs.Signs.{negative_or, opposite_steps, negative_of_opposite, products_agree, positive_positive, positive_negative, negative_positive, negative_negative, zero_left, zero_right, difference_zero}
 use Rattle.plane.proofs.Area.{area_cycle, area_swap, area_back, scalar_swap}
 use Rattle.plane.proofs.Line.{same_point, collinear}
-
--- p is in line with q and r, and strictly between them
-abbrev pub LiesBetween : (p q r : Point) → Type 0
-LiesBetween p q r = (area q p r ≡ pos 0) × (scalar p q r <ℤ pos 0)
 
 zero_back : (p q r : Point) → area q p r ≡ pos 0 → area p q r ≡ pos 0
 zero_back p q r h = let e = area_back p q r in omega (arith, ints)
@@ -211,3 +208,40 @@ other_side_right p q r b h left =
       | inl o ↦ turned_back ux rx (bx *ℤ ry -ℤ by *ℤ rx) (bx *ℤ uy -ℤ by *ℤ ux) o (scale_across ux uy rx ry bx by line) left
       | inr o ↦ turned_back uy ry (bx *ℤ ry -ℤ by *ℤ rx) (bx *ℤ uy -ℤ by *ℤ ux) o.2 (scale_upward ux uy rx ry bx by line) left
     ]
+
+in_range_of_product : (p q r : ℤ) → ((q -ℤ p) *ℤ (r -ℤ p)) ≤ℤ pos 0 → IsInRange p q r
+in_range_of_product p q r h = elim (negative_or (q -ℤ p)) [
+  | inl a ↦ elim (negative_or (r -ℤ p)) [
+    | inl b ↦ absurd (let k = negative_negative (q -ℤ p) (r -ℤ p) a b in omega (arith, ints))
+    | inr rest ↦ inl (omega (arith, ints), elim rest [ inl z ↦ omega (arith, ints) | inr g ↦ omega (arith, ints) ])
+  ]
+  | inr rest ↦ elim rest [
+    | inl z ↦ elim (negative_or (r -ℤ p)) [ inl b ↦ inr (omega (arith, ints), omega (arith, ints)) | inr other ↦ inl (omega (arith, ints), elim other [ inl y ↦ omega (arith, ints) | inr g ↦ omega (arith, ints) ]) ]
+    | inr a ↦ elim (negative_or (r -ℤ p)) [
+      | inl b ↦ inr (omega (arith, ints), omega (arith, ints))
+      | inr other ↦ elim other [ inl y ↦ inr (omega (arith, ints), omega (arith, ints)) | inr b ↦ absurd (let k = positive_positive (q -ℤ p) (r -ℤ p) a b in omega (arith, ints)) ]
+    ]
+  ]
+]
+
+zero_sign : (a b c : ℤ) → a ≡ pos 0 → (a *ℤ b) ≤ℤ pos 0
+zero_sign a b c e = let z = zero_left a b e in omega (arith, ints)
+
+-- what lies between two points is in the ranges of their coordinates
+pub range_across : (p q r : Point) → LiesBetween p q r → IsInRange p.x q.x r.x
+range_across p q r h = in_range_of_product p.x q.x r.x (elim (steps_apart p q r h) [
+  | inl o ↦ (let k = negative_of_opposite (q.x -ℤ p.x) (r.x -ℤ p.x) o in omega (arith, ints))
+  | inr o ↦ zero_sign (q.x -ℤ p.x) (r.x -ℤ p.x) (pos 0) o.0
+])
+
+pub range_upward : (p q r : Point) → LiesBetween p q r → IsInRange p.y q.y r.y
+unfolding area
+range_upward p q r h = in_range_of_product p.y q.y r.y (elim (steps_apart p q r h) [
+  | inl o ↦ (let k = negative_of_opposite (q.x -ℤ p.x) (r.x -ℤ p.x) o in
+      let agree = products_agree (q.x -ℤ p.x) (r.x -ℤ p.x) (q.y -ℤ p.y) (r.y -ℤ p.y) (zero_back p q r h.0) in
+      elim (negative_or ((q.y -ℤ p.y) *ℤ (r.y -ℤ p.y))) [
+        | inl n ↦ omega (arith, ints)
+        | inr rest ↦ elim rest [ inl z ↦ omega (arith, ints) | inr g ↦ absurd (let m = negative_positive ((q.x -ℤ p.x) *ℤ (r.x -ℤ p.x)) ((q.y -ℤ p.y) *ℤ (r.y -ℤ p.y)) k g in omega (arith, ints)) ]
+      ])
+  | inr o ↦ (let k = negative_of_opposite (q.y -ℤ p.y) (r.y -ℤ p.y) o.2 in omega (arith, ints))
+])

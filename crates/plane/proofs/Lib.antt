@@ -5,3 +5,4 @@ pub mod Signs
 pub mod Area
 pub mod Along
 pub mod Outermost
+pub mod Quadruple

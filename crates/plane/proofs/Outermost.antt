@@ -4,11 +4,11 @@ use Rattle.std.proofs.lemmas.Int.{ints}
 use Rattle.plane.specs.declared.coordinates.Point.{Point}
 use Rattle.plane.specs.declared.coordinates.Turn.{Turn}
 use Rattle.plane.specs.declared.coordinates.Turn.TheVariants.{Left, Straight, Right}
-use Rattle.plane.specs.Geometry.{point, area, scalar, orientation, IsBetween, IsClear, IsBorderPair, IsInner}
+use Rattle.plane.specs.Geometry.{point, LiesBetween, area, scalar, orientation, IsBetween, IsClear, IsBorderPair, IsInner}
 use Rattle.plane.specs.Accepted.{AreAccepted, AreApart}
 use Rattle.plane.specs.Hull.{IsOnSide, IsBeyond, IsBorderStep, IsFurther}
 use Rattle.plane.proofs.Area.{area_swap, area_back}
-use Rattle.plane.proofs.Along.{LiesBetween, no_area, between_swap, other_side, other_side_right, one_between, between_beyond}
+use Rattle.plane.proofs.Along.{no_area, between_swap, other_side, other_side_right, one_between, between_beyond}
 use Rattle.plane.proofs.Line.{collinear}
 use Rattle.plane.proofs.Signs.{negative_or}
 use Rattle.std.proofs.lemmas.Bool.{cases_lt}

@@ -13,3 +13,6 @@ mod segment;
 pub use accepted::Points;
 pub use coordinates::{BadPoints, COORDINATE_LIMIT, FEWEST_POINTS, MOST_POINTS, Point, Turn};
 pub use segment::{Pair, PairList};
+
+#[cfg(test)]
+mod tests;

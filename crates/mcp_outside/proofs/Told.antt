@@ -1,12 +1,11 @@
 -- Bytes that a source has left and that a sink holds, over several calls.
-use Rattle.std.proofs.Common.{◌≡◌, ℕ, ◌+◌, ◌-◌, ◌<◌, ◌≤◌, List, [], ◌∷◌, ◌++◌, length, take, drop, Some, None, Ok, Err, Result, Vec, IfSome, IfOk, IfErr, OnOk, IsErrOf, ◌↔◌, vec_len, refl, sym, ◌∙◌, ap, subst, arith, append-nil, length-append, length-drop, take-append-drop}
-use Rattle.std.proofs.lemmas.List.{drop-drop, drop_at, take_all}
+use Rattle.std.proofs.Common.{◌≡◌, ℕ, ◌+◌, ◌-◌, ◌≤◌, List, ◌++◌, length, take, drop, refl, sym, ◌∙◌, ap, subst, arith, length-append, length-drop}
+use Rattle.std.proofs.lemmas.List.{take_all}
 use Rattle.std.proofs.Math.Seq.{take-add}
-use Rattle.std.specs.declared.alloc.Global.{Global}
 use Rattle.std.specs.declared.option.Option.{Option}
-use Rattle.std.specs.Io.KnownBytes.{Consumes, Appends, IsAtEnd}
-use Rattle.std.proofs.KnownBytes.{Appends-trans, Consumes-nil, Consumes-trans}
-use Rattle.mcp_outside.specs.Bytes.{Took, TakesCount, EndsAfter}
+use Rattle.std.specs.Io.KnownBytes.{Consumes, Appends}
+use Rattle.std.proofs.KnownBytes.{Appends-trans, Consumes-trans}
+use Rattle.mcp_outside.specs.Bytes.{TakesCount, EndsAfter}
 use Rattle.mcp_outside.specs.declared.ends.ReadEnd.{ReadEnd}
 use Rattle.mcp_outside.specs.declared.ends.ReadEnd.TheVariants.{Failed, TooLong, NoMemory}
 

@@ -6,6 +6,7 @@ ghost use Rattle.std.specs.Io.KnownBytes.{WriteAppends};
 ghost use Rattle.mcp_outside.specs.Causes.{HasCause};
 ghost use Rattle.mcp_outside.specs.Bytes.{Takes};
 
+use std::alloc::{AllocError, AllocFailed};
 use thiserror::Error;
 
 /// A source or a sink has failed. Its count of faults tells so too.
@@ -15,6 +16,18 @@ pub struct Failed;
 /// No memory was found.
 #[derive(Clone, Copy, Debug, PartialEq, Eq)]
 pub struct NoMemory;
+
+impl From<AllocError> for NoMemory {
+    fn from(_: AllocError) -> NoMemory {
+        NoMemory
+    }
+}
+
+impl<T: Drop> From<AllocFailed<T>> for NoMemory {
+    fn from(_: AllocFailed<T>) -> NoMemory {
+        NoMemory
+    }
+}
 
 /// Why the reading of a whole input ended without its bytes.
 #[derive(Debug, Drop, PartialEq, Eq, Error)]

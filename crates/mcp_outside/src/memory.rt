@@ -75,6 +75,7 @@ impl Source for MemorySource {
         ensures count { IfOk result (λ k. k ≡ min self.old.step (min (length room.new) (length self.old.left))) }
         ensures moved { IfOk result (λ k. self.new ≡ record self.old { left = drop k self.old.left; calls = next_count self.old.calls }) }
         ensures nothing { OnErr result (self.new ≡ record self.old { calls = next_count self.old.calls; faults = next_count self.old.faults }) }
+        ensures untouched { OnErr result (room.new ≡ room.old) }
     {
         self.calls = self.calls.saturating_add(1);
         if self.failing.contains(&self.calls) {
@@ -124,11 +125,8 @@ impl MemorySink {
         requires { 1 ≤ step }
         ensures { IfOk result (λ sink. sink ≡ record { written = []; room = room; step = step; failing = failing.items; calls = 0; faults = 0 }) }
     {
-        let Ok(bytes) = Vec::with_capacity(alloc, room) else {
-            return Err(NoMemory);
-        };
         Ok(MemorySink {
-            bytes,
+            bytes: Vec::with_capacity(alloc, room)?,
             room,
             step,
             failing,

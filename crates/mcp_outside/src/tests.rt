@@ -134,7 +134,7 @@ fn a_fault_of_a_reader_or_writer_is_failed(rt: HostRuntime) -> Result<(), Fail> 
 }
 
 // A step between two others.
-fn passes<G: Gate>(gate: &G) {
+fn passes<G: Gate + Sync>(gate: &G) {
     gate.between(1);
 }
 

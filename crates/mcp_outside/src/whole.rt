@@ -47,10 +47,7 @@ fn chunk_of(alloc: Global, size: usize) -> Result<Vec<u8>, NoMemory>
     requires { 0 < size }
     ensures { IfOk result (λ chunk. 0 < vec_len chunk) }
 {
-    match vec![in alloc; 0u8; size] {
-        Ok(chunk) => Ok(chunk),
-        Err(_) => Err(NoMemory),
-    }
+    Ok(vec![in alloc; 0u8; size]?)
 }
 
 // Reads to the end, a chunk at a time.

@@ -1,8 +1,8 @@
 -- How the levels follow from the front of a text.
-use Rattle.std.proofs.Common.{◌≡◌, ℕ, zero, suc, ◌+◌, ◌-◌, ◌<◌, ◌≤◌, List, [], ◌∷◌, ◌++◌, length, take, drop, get_or, Bool, true, false, cond, not, ◌&&◌, ◌||◌, eqb, refl, sym, ap, ◌∙◌, arith, rules}
+use Rattle.std.proofs.Common.{◌≡◌, ℕ, suc, ◌+◌, ◌-◌, ◌<◌, List, [], ◌∷◌, ◌++◌, length, take, drop, get_or, Bool, true, false, cond, eqb, refl, arith}
 use Rattle.std.specs.List.{prefix_len}
 use Rattle.std.proofs.lemmas.Bool.Decides.{nat_tests}
-use Rattle.text_defs.specs.Pieces.{is_number_byte, string_len, Piece, pieces}
+use Rattle.text_defs.specs.Pieces.{is_number_byte, string_len}
 use Rattle.text_defs.specs.Levels.{opens, closes, unquoted, greatest_count, levels}
 use Rattle.text_defs.proofs.Pieces.{pieces-nil, pieces-quote, pieces-run, pieces-other}
 
@@ -27,8 +27,9 @@ flat-front (c ∷ cs) more =
     let n = prefix_len is_number_byte cs in
     let P : Bool → Type 0 = λ b. is_number_byte c ≡ b → greatest_count (take (cond b (1 + n) 0) (c ∷ cs) ++ more) ≡ greatest_count more in
     let both : (b : Bool) → P b = λ b. elim b as P [
-        true ↦ λ r. rw (one-more n, (number-byte-flat c r).0, (number-byte-flat c r).1) (flat-front cs more)
-      | false ↦ λ r. refl ] in
+      | true ↦ λ r. rw (one-more n, (number-byte-flat c r).0, (number-byte-flat c r).1) (flat-front cs more)
+      | false ↦ λ r. refl
+    ] in
     both (is_number_byte c) refl
 
 pub levels-run : (cs : List ℕ) → 0 < length cs → is_number_byte (get_or cs 0 0) ≡ true → eqb (get_or cs 0 0) 34 ≡ false

@@ -1,3 +1,4 @@
 pub mod Pieces
 pub mod Rewriting
 pub mod Levels
+pub mod Reading

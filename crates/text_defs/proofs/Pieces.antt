@@ -1,8 +1,7 @@
 -- How the pieces of a text follow from its first bytes.
-use Rattle.std.proofs.Common.{◌≡◌, ◌≢◌, ℕ, zero, suc, ◌+◌, ◌-◌, ◌<◌, ◌≤◌, List, [], ◌∷◌, ◌++◌, length, take, drop, Bool, true, false, cond, not, eqb, refl, sym, ap, ◌∙◌, subst, arith, rules, length-drop}
+use Rattle.std.proofs.Common.{◌≡◌, ℕ, zero, suc, ◌≤◌, List, [], ◌∷◌, length, take, drop, true, false, eqb, refl, ap, arith, length-drop}
 use Rattle.std.specs.List.{prefix_len}
-use Rattle.std.proofs.lemmas.Bool.{false≢true}
-use Rattle.text_defs.specs.Pieces.{is_number_byte, string_len, Piece, quoted, run, other, pieces_within, pieces}
+use Rattle.text_defs.specs.Pieces.{is_number_byte, string_len, quoted, run, other, pieces_within, pieces}
 
 shorter : (k : ℕ) (cs : List ℕ) (n : ℕ) → length cs ≤ n → length (drop k cs) ≤ n
 shorter k cs n h = omega (arith, length-drop k cs)
@@ -18,10 +17,12 @@ pieces_within-same (suc n) (suc m) [] h k = refl
 pieces_within-same (suc n) (suc m) (c ∷ cs) h k =
     let a : length cs ≤ n = omega arith in
     let b : length cs ≤ m = omega arith in
-    rw (pieces_within-same n m (drop (string_len cs) cs) (shorter (string_len cs) cs n a) (shorter (string_len cs) cs m b),
-        pieces_within-same n m (drop (prefix_len is_number_byte cs) cs) (shorter (prefix_len is_number_byte cs) cs n a) (shorter (prefix_len is_number_byte cs) cs m b),
-        pieces_within-same n m cs a b)
-        refl
+    rw (
+      pieces_within-same n m (drop (string_len cs) cs) (shorter (string_len cs) cs n a) (shorter (string_len cs) cs m b),
+      pieces_within-same n m (drop (prefix_len is_number_byte cs) cs) (shorter (prefix_len is_number_byte cs) cs n a) (shorter (prefix_len is_number_byte cs) cs m b),
+      pieces_within-same n m cs a b,
+    )
+    refl
 
 pub pieces-nil : pieces [] ≡ []
 unfolding pieces

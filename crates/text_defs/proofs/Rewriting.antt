@@ -1,8 +1,7 @@
 -- How the rewritten text follows from the front of a text.
-use Rattle.std.proofs.Common.{◌≡◌, ℕ, zero, suc, ◌+◌, ◌-◌, ◌<◌, ◌≤◌, List, [], ◌∷◌, ◌++◌, length, take, drop, get_or, Bool, true, false, cond, not, ◌&&◌, eqb, refl, sym, ap, ◌∙◌, arith, rules}
+use Rattle.std.proofs.Common.{◌≡◌, ℕ, suc, ◌+◌, ◌<◌, List, [], ◌∷◌, ◌++◌, length, take, drop, get_or, Bool, true, false, cond, not, ◌&&◌, eqb, refl, ap, ◌∙◌, arith}
 use Rattle.std.specs.List.{prefix_len}
-use Rattle.std.proofs.lemmas.Bool.Decides.{nat_tests}
-use Rattle.text_defs.specs.Pieces.{is_number_byte, string_len, Piece, pieces}
+use Rattle.text_defs.specs.Pieces.{is_number_byte, string_len}
 use Rattle.text_defs.specs.Numbers.{replacement, rewritten}
 use Rattle.text_defs.proofs.Pieces.{pieces-nil, pieces-quote, pieces-run, pieces-other}
 
@@ -38,6 +37,7 @@ rewritten-others [] = refl
 rewritten-others (c ∷ cs) =
     let P : Bool → Type 0 = λ b. is_other c ≡ b → rewritten (c ∷ cs) ≡ take (cond b (1 + prefix_len is_other cs) 0) (c ∷ cs) ++ rewritten (drop (cond b (1 + prefix_len is_other cs) 0) (c ∷ cs)) in
     let both : (b : Bool) → P b = λ b. elim b as P [
-        true ↦ λ o. rw one-more (rewritten-other c cs o ∙ ap (λ r. c ∷ r) (rewritten-others cs))
-      | false ↦ λ o. refl ] in
+      | true ↦ λ o. rw one-more (rewritten-other c cs o ∙ ap (λ r. c ∷ r) (rewritten-others cs))
+      | false ↦ λ o. refl
+    ] in
     both (is_other c) refl

@@ -1,6 +1,6 @@
 -- A text before it is read as JSON: its strings, its longest runs of number bytes, and its other bytes.
-use Rattle.std.specs.Prelude.{ℕ, zero, suc, ◌+◌, List, [], ◌∷◌, ◌++◌, length, take, drop, Bool, ◌&&◌, ◌||◌, ◌==◌, nat_le, if◌then◌else◌}
-use Rattle.std.specs.List.{prefix_len, flat_map}
+use Rattle.std.specs.Prelude.{ℕ, zero, suc, ◌+◌, List, [], ◌∷◌, length, take, drop, Bool, ◌||◌, ◌==◌, if◌then◌else◌}
+use Rattle.std.specs.List.{prefix_len}
 use Rattle.std.specs.Char.{is_ascii_digit}
 
 -- `0` to `9`, `+`, `-`, `.`, `e` and `E` (this project's own)

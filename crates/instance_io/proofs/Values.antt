@@ -1,8 +1,10 @@
 -- The capped value of digits.
-use Rattle.std.proofs.Common.{◌≡◌, ◌⊎◌, ℕ, ◌+◌, ◌-◌, ◌*◌, ◌<◌, ◌≤◌, min, List, [], ◌∷◌, length, drop, get_or, true, cond, refl, sym, ap, ◌∙◌, inl, inr, arith}
-use Rattle.std.specs.List.{take_while}
+use Rattle.std.proofs.Common.{◌≡◌, ◌⊎◌, ℕ, ◌+◌, ◌-◌, ◌*◌, ◌<◌, ◌≤◌, min, List, [], ◌∷◌, length, drop, get_or, nat_lt, Some, None, cond, Bool, true, false, ◌^◌, ◌&&◌, refl, sym, ap, ◌∙◌, inl, inr, arith}
+use Rattle.std.specs.List.{take_while, list_all}
 use Rattle.std.specs.Char.{is_ascii_digit, digit_value}
-use Rattle.std.specs.Str.Parse.{digits_value_after}
+use Rattle.std.specs.Str.Parse.{digits_value, digits_value_after}
+use Rattle.text_defs.specs.Whole.{nearest_64, whole_of_text}
+use Rattle.json.specs.Word.{after_minus}
 use Rattle.std.proofs.lemmas.Bool.{cases_lt}
 use Rattle.std.proofs.lemmas.Bool.Decides.{nat_tests}
 use Rattle.std.proofs.lemmas.List.{drop_more}
@@ -38,3 +40,27 @@ pub value_step : (cap v : ℕ) (xs : List ℕ) (i : ℕ) → i < length xs → i
 value_step cap v xs i h d =
     capped_same cap (v * 10 + (get_or xs i 0 - 48)) (take_while is_ascii_digit (drop (i + 1) xs))
     ∙ ap (min cap) (sym (front_digit v (get_or xs i 0) (drop (i + 1) xs) d) ∙ ap (λ s. digits_value_after 10 v (take_while is_ascii_digit s)) (sym (drop_more xs i 0 h)))
+
+pub all_taken : (ds : List ℕ) → list_all is_ascii_digit ds ≡ true → take_while is_ascii_digit ds ≡ ds
+all_taken [] h = refl
+all_taken (d ∷ ds) h =
+    let first : is_ascii_digit d ≡ true = grind arith in
+    let others : list_all is_ascii_digit ds ≡ true = grind arith in
+    take_while-cons is_ascii_digit d ds ∙ rw (first, all_taken ds others) refl
+
+capped_sign : (cap n : ℕ) → cap ≡ 2 ^ 63 + 1 → (minus : Bool) → nearest_64 minus (min cap n) ≡ nearest_64 minus n
+capped_sign cap n e true = let m : min (min cap n) (2 ^ 63) ≡ min n (2 ^ 63) = omega arith in rw m refl
+capped_sign cap n e false = let m : min (min cap n) (2 ^ 63 - 1) ≡ min n (2 ^ 63 - 1) = omega arith in rw m refl
+
+pub nearest_capped : (minus : Bool) (ds : List ℕ) → list_all is_ascii_digit ds ≡ true
+    → nearest_64 minus (min 9223372036854775809 (digits_value 10 (take_while is_ascii_digit ds))) ≡ nearest_64 minus (digits_value 10 ds)
+nearest_capped minus ds h = capped_sign 9223372036854775809 (digits_value 10 (take_while is_ascii_digit ds)) refl minus ∙ ap (λ s. nearest_64 minus (digits_value 10 s)) (all_taken ds h)
+
+pub nearest_of_text : (text digits : List ℕ) (value : ℕ) → digits ≡ after_minus text → (nat_lt 0 (length digits) && list_all is_ascii_digit digits) ≡ true
+    → value ≡ min 9223372036854775809 (digits_value 10 (take_while is_ascii_digit digits)) → whole_of_text text ≡ Some (nearest_64 (nat_lt (length digits) (length text)) value)
+nearest_of_text text digits value e d v =
+    let all : list_all is_ascii_digit digits ≡ true = grind arith in
+    rw (← e, d, v) (ap Some (sym (nearest_capped (nat_lt (length digits) (length text)) digits all)))
+
+pub no_number_of_text : (text digits : List ℕ) → digits ≡ after_minus text → (nat_lt 0 (length digits) && list_all is_ascii_digit digits) ≡ false → whole_of_text text ≡ None
+no_number_of_text text digits e d = rw (← e, d) refl

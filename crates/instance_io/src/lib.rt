@@ -8,6 +8,8 @@ mod rewriting;
 mod strings;
 #[cfg(test)]
 mod tests;
+mod whole_numbers;
 
-pub use reading::read_value;
+pub use reading::{TextFault, read_value};
 pub use rewriting::plain_numbers;
+pub use whole_numbers::whole;

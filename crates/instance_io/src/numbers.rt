@@ -7,10 +7,10 @@ ghost use Rattle.json.specs.Word.{head, after_minus, after_sign, after_digits, a
 ghost use Rattle.text_defs.specs.Numbers.{is_number, is_exponent_mark, is_counting_digit, is_broken, after_whole_part, whole_text, replacement};
 
 // One more than the greatest value that a sign can bring within 64 bits.
-const CAP: u64 = 9_223_372_036_854_775_809;
+pub(crate) const CAP: u64 = 9_223_372_036_854_775_809;
 
 #[tactic(auto, using(std::proofs::lemmas::List::Sums::prefix_len_is))]
-fn digits_len(text: &[u8]) -> usize
+pub(crate) fn digits_len(text: &[u8]) -> usize
     ensures value { result ≡ prefix_len is_ascii_digit text.now }
     ensures bound { result ≤ length text.now }
 {
@@ -31,7 +31,7 @@ fn first_byte(text: &[u8]) -> u8
     }
 }
 
-fn after_minus(text: &[u8]) -> &[u8]
+pub(crate) fn after_minus(text: &[u8]) -> &[u8]
     ensures { result.now ≡ after_minus text.now }
 {
     if first_byte(text) == b'-' {
@@ -41,7 +41,7 @@ fn after_minus(text: &[u8]) -> &[u8]
     }
 }
 
-fn after_sign(text: &[u8]) -> &[u8]
+pub(crate) fn after_sign(text: &[u8]) -> &[u8]
     ensures { result.now ≡ after_sign text.now }
 {
     let byte = first_byte(text);

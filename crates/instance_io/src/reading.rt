@@ -10,6 +10,7 @@ use serde_json::Value;
 use std::alloc::Global;
 
 /// Why a text isn't read as a value.
+#[derive(Clone, Copy, Debug, PartialEq, Eq, Drop)]
 pub enum TextFault {
     /// The text has more than 64 levels, or no reading.
     NotJson,

@@ -41,7 +41,7 @@ pub(crate) fn after_minus(text: &[u8]) -> &[u8]
     }
 }
 
-pub(crate) fn after_sign(text: &[u8]) -> &[u8]
+fn after_sign(text: &[u8]) -> &[u8]
     ensures { result.now ≡ after_sign text.now }
 {
     let byte = first_byte(text);

@@ -4,11 +4,12 @@ ghost use Rattle.text_defs.specs.Numbers.{rewritten};
 
 use crate::numbers::plain_run;
 use crate::strings::{is_number_byte, others_len, run_len, string_len};
-use std::alloc::{AllocError, Global};
+use mcp_outside::NoMemory;
+use std::alloc::Global;
 
 /// The text with each number outside its strings rewritten to a whole number of 64 bits, or to `null`
 /// where it has an exponent or a fraction that isn't zero (this project's own).
-pub fn plain_numbers(alloc: Global, bytes: &[u8]) -> Result<Vec<u8>, AllocError>
+pub fn plain_numbers(alloc: Global, bytes: &[u8]) -> Result<Vec<u8>, NoMemory>
     ensures { IfOk result (λ plain. plain.items ≡ rewritten bytes.now) }
 {
     let mut plain = Vec::with_capacity(alloc, bytes.len())?;
@@ -20,7 +21,7 @@ pub fn plain_numbers(alloc: Global, bytes: &[u8]) -> Result<Vec<u8>, AllocError>
 }
 
 // Appends what the first piece becomes, and says how long the piece is. Other bytes go together.
-fn push_piece(rest: &[u8], plain: &mut Vec<u8>) -> Result<usize, AllocError>
+fn push_piece(rest: &[u8], plain: &mut Vec<u8>) -> Result<usize, NoMemory>
     requires { 0 < length rest.now }
     ensures more { IfOk result (λ n. 0 < n) }
     ensures bound { IfOk result (λ n. n ≤ length rest.now) }

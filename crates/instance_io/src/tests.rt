@@ -1,4 +1,4 @@
-use crate::{TextFault, plain_numbers, read_value, whole};
+use crate::{InstanceFault, plain_numbers, read_value, whole};
 use serde_json::Value;
 use std::alloc::AllocError;
 
@@ -39,7 +39,7 @@ fn numbers_become_whole(rt: HostRuntime) -> Result<(), AllocError> {
 fn is_refused(rt: &HostRuntime, text: &[u8]) -> bool {
     match read_value(rt.alloc(), text) {
         Ok(_) => false,
-        Err(fault) => fault == TextFault::NotJson,
+        Err(fault) => fault == InstanceFault::NotJson,
     }
 }
 

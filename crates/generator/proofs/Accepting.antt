@@ -1,12 +1,11 @@
 -- The points of each kind are accepted: they differ, are near, and aren't all on one line.
-use Rattle.std.proofs.Common.{◌≡◌, ◌≢◌, ℕ, zero, suc, ◌+◌, ◌-◌, ◌*◌, ◌/◌, ◌%◌, ◌<◌, ◌≤◌, List, length, ℤ, pos, ◌+ℤ◌, ◌-ℤ◌, ◌*ℤ◌, refl, ap, sym, ◌∙◌, arith, subst, ◌⊎◌, inl, inr}
+use Rattle.std.proofs.Common.{◌≡◌, ◌≢◌, ℕ, zero, suc, ◌+◌, ◌*◌, ◌/◌, ◌%◌, ◌<◌, ◌≤◌, List, length, pos, ◌-ℤ◌, ◌*ℤ◌, refl, ap, sym, ◌∙◌, arith, subst, inl, inr}
 use Rattle.std.proofs.lemmas.Int.{ints}
 use Rattle.std.proofs.lemmas.Bool.{cases_lt}
-use Rattle.std.proofs.Math.Nat.{mod-lt, mod-le, mod-eq_of_lt, mod_self, div_self, div-eq_of_lt, div-le_self, div-add-mod}
+use Rattle.std.proofs.Math.Nat.{mod-lt, mod-le, mod-eq_of_lt, mod_self, div_self, div-eq_of_lt, div-le_self, div-add-mod, mul-le-mul_left}
 use Rattle.plane.specs.declared.coordinates.Point.{Point}
-use Rattle.plane.specs.Geometry.{point, area, orientation}
-use Rattle.plane.specs.Accepted.{IsNear, HasCount, AreNear, AreApart, AreSpread, AreAccepted}
-use Rattle.plane.specs.First.{IsLeast}
+use Rattle.plane.specs.Geometry.{point, area}
+use Rattle.plane.specs.Accepted.{IsNear, AreAccepted}
 use Rattle.generator.specs.Words.{word}
 use Rattle.generator.specs.Kinds.{place, width, scatter_point, grid_point, ring_point, IsSide}
 
@@ -66,7 +65,7 @@ accepted n f S low high len each sound = record {
   near = λ k h. subst IsNear (sym (each k (omega arith))) (sound.near k (omega arith));
   apart = λ i j h k e. sound.apart i j h (omega arith) (sym (each i (omega arith)) ∙ e ∙ each j (omega arith));
   spread = (let (p, q, r, hp, hq, hr, bent) = sound.bent in
-    (p, q, r, omega arith, omega arith, omega arith, λ e. bent (sym (ap (λ x. area x (f q) (f r)) (each p hp)) ∙ sym (ap (λ y. area (point S p) y (f r)) (each q hq)) ∙ sym (ap (λ z. area (point S p) (point S q) z) (each r hr)) ∙ e)));
+      (p, q, r, omega arith, omega arith, omega arith, λ e. bent (sym (ap (λ x. area x (f q) (f r)) (each p hp)) ∙ sym (ap (λ y. area (point S p) y (f r)) (each q hq)) ∙ sym (ap (λ z. area (point S p) (point S q) z) (each r hr)) ∙ e)));
 }
 
 positive_square : (w : ℕ) → 0 < w → 0 < w * w
@@ -112,13 +111,16 @@ side_most n m low side = (big m side.holds, small n m low side)
     big zero h = absurd (omega arith)
     big (suc zero) h = absurd (omega arith)
     big (suc (suc m)) h = omega arith
+
     twice : (j : ℕ) → 2 ≤ j → 2 * j ≤ j * j
-    twice j h = grind arith
+    twice j h = omega (arith, mul-le-mul_left j h)
+
     small : (n m : ℕ) → 3 ≤ n → IsSide n m → m < n
     small n zero low side = omega arith
     small n (suc j) low side = elim (cases_lt (suc j) n) [
-        inl h ↦ h
-      | inr h ↦ absurd (side.before j (omega arith) (let two : 2 * j ≤ j * j = twice j (omega arith) in omega arith)) ]
+      | inl h ↦ h
+      | inr h ↦ absurd (side.before j (omega arith) (let two : 2 * j ≤ j * j = twice j (omega arith) in omega arith))
+    ]
 
 grid_near : (n m k : ℕ) → k < n → n ≤ 5000 → IsNear (grid_point m k)
 grid_near n m k h high = near (10 * (k % m)) (10 * (k / m)) (omega (arith, mod-le k m)) (omega (arith, div-le_self k m))
@@ -132,8 +134,8 @@ grid_sound n m low high side =
     record {
       near = λ k h. grid_near n m k h high;
       apart = λ i j h k e.
-        (let a = across (10 * (i % m)) (10 * (i / m)) (10 * (j % m)) (10 * (j / m)) e in
-         let b = upward (10 * (i % m)) (10 * (i / m)) (10 * (j % m)) (10 * (j / m)) e in
-         omega (arith, same_index m i j (omega arith) (omega arith)));
+          (let a = across (10 * (i % m)) (10 * (i / m)) (10 * (j % m)) (10 * (j / m)) e in
+          let b = upward (10 * (i % m)) (10 * (i / m)) (10 * (j % m)) (10 * (j / m)) e in
+          omega (arith, same_index m i j (omega arith) (omega arith)));
       bent = (0, 1, m, omega arith, omega arith, below, λ e. not_zero 100 (omega arith) (sym grid_area ∙ sym (ap (λ x. area x (place 10 0) (place 0 10)) first) ∙ sym (ap (λ y. area (grid_point m 0) y (place 0 10)) second) ∙ sym (ap (λ z. area (grid_point m 0) (grid_point m 1) z) third) ∙ e));
     }

@@ -1,7 +1,7 @@
 -- Words by their position, and the points of a scatter that they give.
-use Rattle.std.proofs.Common.{◌≡◌, ℕ, zero, suc, ◌+◌, ◌*◌, ◌%◌, ◌<◌, List, [], ◌∷◌, ◌++◌, length, refl, ap, sym, ◌∙◌, arith, slice_index_or}
+use Rattle.std.proofs.Common.{◌≡◌, ℕ, zero, suc, ◌+◌, ◌*◌, ◌%◌, ◌<◌, List, [], ◌∷◌, ◌++◌, length, refl, ap, sym, ◌∙◌, arith}
 use Rattle.std.proofs.lemmas.Grind.{common_steps}
-use Rattle.rand_pcg.specs.Lcg.{Lcg, next, next_state, state_after, advance}
+use Rattle.rand_pcg.specs.Lcg.{Lcg, next, next_state, state_after}
 use Rattle.rand_pcg.specs.Pcg.{multiplier_64, output_xsh_rr, pcg32}
 use Rattle.plane.specs.declared.coordinates.Point.{Point}
 use Rattle.plane.specs.Geometry.{point}
@@ -50,7 +50,8 @@ two_words seed j a b g h i eg eh ei =
     let moved : h ≡ next 64 multiplier_64 g = ap (λ (p : ℕ × Lcg). p.1) eh in
     let second : b ≡ output_xsh_rr h.state = ap (λ (p : ℕ × Lcg). p.0) ei in
     let again : i ≡ next 64 multiplier_64 h = ap (λ (p : ℕ × Lcg). p.1) ei in
-    let here : h ≡ at_position seed (2 * j + 1) = moved ∙ ap (next 64 multiplier_64) eg ∙ at_next seed (2 * j) (2 * j + 1) (omega arith) in
-    (first ∙ ap (λ (s : Lcg). output_xsh_rr s.state) eg ∙ word_at seed (2 * j),
-     second ∙ ap (λ (s : Lcg). output_xsh_rr s.state) here ∙ word_at seed (2 * j + 1),
-     again ∙ ap (next 64 multiplier_64) here ∙ at_next seed (2 * j + 1) (2 * (j + 1)) (omega arith))
+    let here : h ≡ at_position seed (2 * j + 1) = moved ∙ ap (next 64 multiplier_64) eg ∙ at_next seed (2 * j) (2 * j + 1) (omega arith) in (
+      first ∙ ap (λ (s : Lcg). output_xsh_rr s.state) eg ∙ word_at seed (2 * j),
+      second ∙ ap (λ (s : Lcg). output_xsh_rr s.state) here ∙ word_at seed (2 * j + 1),
+      again ∙ ap (next 64 multiplier_64) here ∙ at_next seed (2 * j + 1) (2 * (j + 1)) (omega arith),
+    )

@@ -1,5 +1,5 @@
 -- The point lists that are made from a number, point by point. (This project's own.)
-use Rattle.std.specs.Prelude.{◌≡◌, ℕ, zero, suc, ◌+◌, ◌-◌, ◌*◌, ◌/◌, ◌%◌, ◌<◌, ◌≤◌, List, length, pos}
+use Rattle.std.specs.Prelude.{◌≡◌, ℕ, zero, suc, ◌+◌, ◌*◌, ◌/◌, ◌%◌, ◌<◌, ◌≤◌, List, length, pos}
 use Rattle.plane.specs.declared.coordinates.Point.{Point}
 use Rattle.plane.specs.First.{IsLeast}
 use Rattle.plane.specs.Geometry.{point}

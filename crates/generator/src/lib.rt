@@ -3,5 +3,10 @@
 
 mod kinds;
 mod lists;
+mod making;
 
 pub use kinds::Kind;
+pub use making::generate;
+
+#[cfg(test)]
+mod tests;

@@ -1,6 +1,7 @@
 // The point lists of each kind.
 ghost use Rattle.std.specs.Prelude.{◌≡◌, ◌+◌, ◌*◌, ◌%◌, ◌<◌, ◌≤◌, [], ◌∷◌, ℕ, vec_len, IfOk};
 ghost use Rattle.plane.specs.Geometry.{point};
+ghost use Rattle.plane.specs.Accepted.{AreAccepted};
 ghost use Rattle.generator.specs.Kinds.{scatter_point, grid_point, ring_point, IsSide, place, width};
 
 use plane::Point;
@@ -11,7 +12,10 @@ use std::alloc::{AllocError, Global};
 fn at(x: u32, y: u32) -> Point
     ensures { result ≡ place x y }
 {
-    Point { x: i64::from(x), y: i64::from(y) }
+    Point {
+        x: i64::from(x),
+        y: i64::from(y),
+    }
 }
 
 // Three corners, and then a point in each strip.
@@ -20,6 +24,7 @@ pub fn scatter(alloc: Global, n: u32, seed: u64) -> Result<Vec<Point>, AllocErro
     requires most { n ≤ 5000 }
     ensures count { IfOk result (λ v. vec_len v ≡ n) }
     ensures each { IfOk result (λ v. (k : ℕ) → k < n → point v.items k ≡ scatter_point n seed k) }
+    ensures accepted { IfOk result (λ v. AreAccepted v.items) }
 {
     let mut list = corners(alloc, n)?;
     let mut words = Pcg32::new(seed, 1);
@@ -60,6 +65,7 @@ pub fn grid(alloc: Global, n: u32) -> Result<Vec<Point>, AllocError>
     requires most { n ≤ 5000 }
     ensures count { IfOk result (λ v. vec_len v ≡ n) }
     ensures each { IfOk result (λ v. (m k : ℕ) → IsSide n m → k < n → point v.items k ≡ grid_point m k) }
+    ensures accepted { IfOk result (λ v. AreAccepted v.items) }
 {
     let side = side_of(n);
     let mut list = Vec::with_capacity(alloc, n as usize)?;
@@ -86,9 +92,11 @@ fn side_of(n: u32) -> u32
 
 // Points on a parabola.
 pub fn ring(alloc: Global, n: u32) -> Result<Vec<Point>, AllocError>
-    requires { n ≤ 5000 }
+    requires least { 3 ≤ n }
+    requires most { n ≤ 5000 }
     ensures count { IfOk result (λ v. vec_len v ≡ n) }
     ensures each { IfOk result (λ v. (k : ℕ) → k < n → point v.items k ≡ ring_point k) }
+    ensures accepted { IfOk result (λ v. AreAccepted v.items) }
 {
     let mut list = Vec::with_capacity(alloc, n as usize)?;
     for k in 0..n {

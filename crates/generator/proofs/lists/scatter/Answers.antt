@@ -1,6 +1,7 @@
-use Rattle.std.proofs.Common.{◌≡◌, ◌+◌, ◌*◌, ◌++◌, ◌∷◌, [], arith, rules, sym, ap, ◌∙◌, subst, refl}
+use Rattle.std.proofs.Common.{◌+◌, arith, ap, ◌∙◌, refl}
 use Rattle.plane.specs.Geometry.{point}
 use Rattle.generator.specs.Kinds.{scatter_point}
+use Rattle.generator.proofs.Accepting.{accepted, scatter_sound}
 use Rattle.generator.proofs.Positions.{at_begin, two_words, corner_points, strip, one_more}
 use Rattle.generator.proofs.lists.scatter.Goals as goal
 
@@ -18,6 +19,9 @@ loop-j-preserved c =
       count = omega (arith, c.in_ok-push.ensures.len, c.loop-j.invariant.count);
       words = drawn.2;
       each = λ k h. ap (λ s. point s k) c.in_ok-push.ensures.items
-        ∙ one_more (scatter_point c.args.n c.args.seed) c.loop-j.list.items c.strip_point.result (c.loop-j.j + 3) (omega (arith, c.loop-j.invariant.count, c.loop-j.list.ok)) c.loop-j.invariant.each
-            (strip c.args.n c.args.seed c.loop-j.j (c.loop-j.j + 3) c.strip_point.result c.next_word-across.result c.next_word-upward.result refl drawn.0 drawn.1 c.strip_point.ensures) k (omega (arith, h));
+          ∙ one_more (scatter_point c.args.n c.args.seed) c.loop-j.list.items c.strip_point.result (c.loop-j.j + 3) (omega (arith, c.loop-j.invariant.count, c.loop-j.list.ok)) c.loop-j.invariant.each
+          (strip c.args.n c.args.seed c.loop-j.j (c.loop-j.j + 3) c.strip_point.result c.next_word-across.result c.next_word-upward.result refl drawn.0 drawn.1 c.strip_point.ensures) k (omega (arith, h));
     }
+
+pub returns-clause-accepted : goal.returns-clause-accepted
+returns-clause-accepted c = accepted c.args.n (scatter_point c.args.n c.args.seed) c.loop-j.list.items c.requires.least c.requires.most (omega (arith, c.loop-j.list.ok, c.loop-j.invariant.count)) (λ k h. c.loop-j.invariant.each k (omega arith)) (scatter_sound c.args.n c.args.seed c.requires.least c.requires.most)

@@ -2,6 +2,7 @@
 #![tactic(auto)]
 
 ghost use Rattle.std.specs.Prelude.{◌<◌, ◌≢◌, ◌↔◌, length, IsTrue};
+ghost use Rattle.plane.specs.Geometry.{IsBorderPair, IsInNeed, IsInner};
 ghost use Rattle.partition_defs.specs.Partition.{HasEnds, Joins, AreWithin, AreClear, ArePlane, CrossesNone, HasBorder, HasBorderFrom, IsMet, MeetsNeedsAt, MeetsNeeds, IsConvexPartition};
 
 use plane::{Pair, Points};
@@ -77,13 +78,23 @@ pub fn are_plane(points: &Points, list: &[Pair]) -> bool
     true
 }
 
+// Whether the pair is no border pair or is in the list.
+fn has_border_at(points: &Points, list: &[Pair], i: u32, j: u32) -> bool
+    requires ordered { i < j }
+    requires within { j < length points.now }
+    ensures { IsTrue result ↔ (IsBorderPair points.now i j → Joins list.now i j) }
+{
+    !points.is_border(Pair::of(i, j)) || joins(list, i, j)
+}
+
 /// Whether each border pair whose smaller index is `i` is in the list.
 pub fn has_border_from(points: &Points, list: &[Pair], i: u32) -> bool
     requires { i < length points.now }
     ensures { IsTrue result ↔ HasBorderFrom points.now list.now i }
 {
-    for j in 0..points.len() {
-        if i < j && points.is_border(Pair::of(i, j)) && !joins(list, i, j) {
+    let count = points.len();
+    for j in i + 1..count {
+        if !has_border_at(points, list, i, j) {
             return false;
         }
     }
@@ -102,6 +113,17 @@ pub fn has_border(points: &Points, list: &[Pair]) -> bool
     true
 }
 
+// Whether the segment of `p` and `r` is in the list, and `r` is in the need of `p` for `q`.
+fn meets(points: &Points, list: &[Pair], p: u32, q: u32, r: u32) -> bool
+    requires p_in { p < length points.now }
+    requires q_in { q < length points.now }
+    requires r_in { r < length points.now }
+    requires differ { p ≢ q }
+    ensures { IsTrue result ↔ (Joins list.now p r × IsInNeed points.now p q r) }
+{
+    joins(list, p, r) && points.in_need(p, q, r)
+}
+
 /// Whether some segment at `p` has its other end in the need of `p` for `q`.
 pub fn is_met(points: &Points, list: &[Pair], p: u32, q: u32) -> bool
     requires p_in { p < length points.now }
@@ -110,11 +132,20 @@ pub fn is_met(points: &Points, list: &[Pair], p: u32, q: u32) -> bool
     ensures { IsTrue result ↔ IsMet points.now list.now p q }
 {
     for r in 0..points.len() {
-        if joins(list, p, r) && points.in_need(p, q, r) {
+        if meets(points, list, p, q, r) {
             return true;
         }
     }
     false
+}
+
+// Whether the need of `p` for `q` is met, or the two are one point.
+fn is_met_or_same(points: &Points, list: &[Pair], p: u32, q: u32) -> bool
+    requires p_in { p < length points.now }
+    requires q_in { q < length points.now }
+    ensures { IsTrue result ↔ (q ≢ p → IsMet points.now list.now p q) }
+{
+    q == p || is_met(points, list, p, q)
 }
 
 /// Whether all needs of `p` are met.
@@ -123,7 +154,7 @@ pub fn meets_needs_at(points: &Points, list: &[Pair], p: u32) -> bool
     ensures { IsTrue result ↔ MeetsNeedsAt points.now list.now p }
 {
     for q in 0..points.len() {
-        if p != q && !is_met(points, list, p, q) {
+        if !is_met_or_same(points, list, p, q) {
             return false;
         }
     }

@@ -1,6 +1,6 @@
-use Rattle.std.proofs.Common.{◌≡◌, ◌≢◌, ◌<◌, ℕ, slice_index_or, length}
+use Rattle.std.proofs.Common.{◌≡◌, ◌<◌, ℕ, slice_index_or}
 use Rattle.plane.specs.declared.segment.Pair.{Pair}
-use Rattle.partition_defs.specs.Partition.{Joins, CrossesNone, HasBorderFrom, IsMet}
+use Rattle.partition_defs.specs.Partition.{CrossesNone}
 use Rattle.partition_defs.proofs.are_plane.Given as goal
 
 abbrev pub invariant-loop-e : goal.invariant-loop-e

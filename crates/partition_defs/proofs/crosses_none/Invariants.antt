@@ -1,6 +1,6 @@
-use Rattle.std.proofs.Common.{◌≡◌, ◌≢◌, ◌<◌, ℕ, slice_index_or, length}
+use Rattle.std.proofs.Common.{◌≡◌, ◌<◌, ℕ, slice_index_or}
 use Rattle.plane.specs.declared.segment.Pair.{Pair}
-use Rattle.plane.specs.Geometry.{AreCrossing, IsBorderPair, IsInNeed}
+use Rattle.plane.specs.Geometry.{AreCrossing}
 use Rattle.partition_defs.proofs.crosses_none.Given as goal
 
 abbrev pub invariant-loop-f : goal.invariant-loop-f

@@ -1,5 +1,5 @@
-use Rattle.std.proofs.Common.{◌≡◌, ◌≢◌, ◌<◌, ℕ, slice_index_or, length}
-use Rattle.partition_defs.specs.Partition.{Joins, CrossesNone, HasBorderFrom, IsMet}
+use Rattle.std.proofs.Common.{◌<◌, ℕ}
+use Rattle.partition_defs.specs.Partition.{HasBorderFrom}
 use Rattle.partition_defs.proofs.has_border.Given as goal
 
 abbrev pub invariant-loop-i : goal.invariant-loop-i

@@ -1,6 +1,6 @@
-use Rattle.std.proofs.Common.{◌≡◌, ◌≢◌, ◌<◌, ℕ, slice_index_or, length}
-use Rattle.plane.specs.Geometry.{AreCrossing, IsBorderPair, IsInNeed}
-use Rattle.partition_defs.specs.Partition.{Joins, CrossesNone, HasBorderFrom, IsMet}
+use Rattle.std.proofs.Common.{◌<◌, ℕ}
+use Rattle.plane.specs.Geometry.{IsBorderPair}
+use Rattle.partition_defs.specs.Partition.{Joins}
 use Rattle.partition_defs.proofs.has_border_from.Given as goal
 
 abbrev pub invariant-loop-j : goal.invariant-loop-j

@@ -1,5 +1,5 @@
-use Rattle.std.proofs.Common.{◌≡◌, ◌≢◌, ◌<◌, ℕ, slice_index_or, length}
-use Rattle.partition_defs.specs.Partition.{Joins, CrossesNone, HasBorderFrom, IsMet}
+use Rattle.std.proofs.Common.{◌≢◌, ◌<◌, ℕ}
+use Rattle.partition_defs.specs.Partition.{IsMet}
 use Rattle.partition_defs.proofs.meets_needs_at.Given as goal
 
 abbrev pub invariant-loop-q : goal.invariant-loop-q

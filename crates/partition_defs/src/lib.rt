@@ -160,3 +160,42 @@ pub fn meets_needs_at(points: &Points, list: &[Pair], p: u32) -> bool
     }
     true
 }
+
+// Whether the point is no inner point or has all its needs met.
+fn meets_needs_of(points: &Points, list: &[Pair], p: u32) -> bool
+    requires { p < length points.now }
+    ensures { IsTrue result ↔ (IsInner points.now p → MeetsNeedsAt points.now list.now p) }
+{
+    !points.is_inner(p) || meets_needs_at(points, list, p)
+}
+
+/// Whether each inner point has all its needs met.
+pub fn meets_needs(points: &Points, list: &[Pair]) -> bool
+    ensures { IsTrue result ↔ MeetsNeeds points.now list.now }
+{
+    for p in 0..points.len() {
+        if !meets_needs_of(points, list, p) {
+            return false;
+        }
+    }
+    true
+}
+
+/// Whether the list's set is a convex partition. (The challenge's condition.)
+pub fn is_convex_partition_plain(points: &Points, list: &[Pair]) -> bool
+    ensures { IsTrue result ↔ IsConvexPartition points.now list.now }
+{
+    if !are_within(points, list) {
+        return false;
+    }
+    if !are_clear(points, list) {
+        return false;
+    }
+    if !are_plane(points, list) {
+        return false;
+    }
+    if !has_border(points, list) {
+        return false;
+    }
+    meets_needs(points, list)
+}

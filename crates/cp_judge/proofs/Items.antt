@@ -90,7 +90,6 @@ crossing_found S K a b e f se sf l h before after =
     })
 
 ordered_once : (a b : ℕ) → IsProp (ordered-type a b)
-unfolding ordered-type
 ordered_once a b = le_prop
 
 made : (a b : ℕ) → ordered-type a b → Pair

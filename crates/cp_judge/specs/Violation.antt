@@ -1,11 +1,11 @@
 -- How a list of segments fails to be a convex partition: each kind's first case, with what it shows. (This project's own
 -- order.)
-use Rattle.std.specs.Prelude.{◌≡◌, ◌≢◌, ℕ, ◌<◌, List, length, slice_index_or, Option, Some, None}
+use Rattle.std.specs.Prelude.{◌≡◌, ◌≢◌, ℕ, ◌<◌, List, length, slice_index_or, Option, Some, None, Bool, false, IsTrue, ◌↔◌, ◌⊎◌}
 use Rattle.plane.specs.declared.coordinates.Point.{Point}
 use Rattle.plane.specs.declared.segment.Pair.{Pair}
 use Rattle.plane.specs.First.{IsLeast, IsFirstPair}
-use Rattle.plane.specs.Geometry.{IsBetween, AreCrossing, IsBorderPair, IsInner}
-use Rattle.partition_defs.specs.Partition.{Joins, IsMet}
+use Rattle.plane.specs.Geometry.{IsBetween, AreCrossing, IsBorderPair, IsInner, IsInNeed}
+use Rattle.partition_defs.specs.Partition.{HasEnds, Joins, IsMet}
 
 -- k is the least number from after a to below n with P, or none where no such number has it
 abbrev pub IsLeastAfterOrNone : (ℕ → Type 0) → (a n : ℕ) → Option ℕ → Type 0
@@ -66,3 +66,28 @@ HasUnmet S K p = IsInner S p × ((q : ℕ) × (q < length S) × IsUnmetAt S K p 
 -- p is the least inner point with a need that isn't met, and q the least point for which it isn't
 abbrev pub IsUnmet : List Point → List Pair → (p q : ℕ) → Type 0
 IsUnmet S K p q = IsLeast (HasUnmet S K) (length S) p × IsLeast (IsUnmetAt S K p) (length S) q
+
+-- the other end of a segment at p, or none where it isn't at p
+abbrev pub IsOtherEnd : Pair → ℕ → Option ℕ → Type 0
+IsOtherEnd e p None = (r : ℕ) → ¬ HasEnds e p r
+IsOtherEnd e p (Some r) = (s : ℕ) → HasEnds e p s ↔ (s ≡ r)
+
+-- r is in the need of p for another point q
+abbrev pub IsSeen : List Point → (p q r : ℕ) → Type 0
+IsSeen S p q r = (q ≢ p) × IsInNeed S p q r
+
+-- the segment joins p with a point in the need of p for q
+abbrev pub IsMetBy : List Point → Pair → (p q : ℕ) → Type 0
+IsMetBy S e p q = (r : ℕ) × HasEnds e p r × IsSeen S p q r
+
+-- some segment before position n does so
+abbrev pub IsMetBefore : List Point → List Pair → (n p q : ℕ) → Type 0
+IsMetBefore S K n p q = (k : ℕ) × (e : Pair) × (k < n) × StandsAt K k e × IsMetBy S e p q
+
+-- the mark of q
+abbrev pub mark : List Bool → ℕ → Bool
+mark M q = slice_index_or M q false
+
+-- the marks of the points below n are those of M, and those for which P holds besides
+abbrev pub AddsMarks : (ℕ → Type 0) → (n : ℕ) → (M N : List Bool) → Type 0
+AddsMarks P n M N = (q : ℕ) → q < n → IsTrue (mark N q) ↔ (IsTrue (mark M q) ⊎ P q)

@@ -10,4 +10,4 @@ returns-in-Some c =
 
 pub loop-i-preserved : goal.loop-i-preserved
 loop-i-preserved c =
-    below_more (λ (i : ℕ). HasBorderFrom c.args.points.now c.args.list.now i) c.loop-i.i c.loop-i.invariant (λ j. c.in_default.ensures tt j)
+    below_more (λ (i : ℕ). HasBorderFrom c.args.points.now c.args.list.now i) c.loop-i.i c.loop-i.invariant (λ j. c.in_default.ensures j)

@@ -1,0 +1,6 @@
+use Rattle.std.proofs.Common.{◌≡◌, ◌≢◌, ◌<◌, ◌≤◌, ℕ, length, false}
+use Rattle.cp_judge.specs.Violation.{mark, AddsMarks, IsSeen, IsMetBefore}
+use Rattle.cp_judge.proofs.needs.first_unmarked.Given as goal
+
+abbrev pub invariant-loop-q : goal.invariant-loop-q
+invariant-loop-q l = (q : ℕ) → q < l.q → ¬ ((q ≢ l.p) × (mark l.marks q ≡ false))

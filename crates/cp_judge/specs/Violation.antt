@@ -31,7 +31,7 @@ IsUnclearAt S K k = (e : Pair) × (p : ℕ) × StandsAt K k e × (p < length S) 
 -- e is the first pair that isn't clear, and p the least point between its ends
 abbrev pub IsNotClear : List Point → List Pair → Pair → ℕ → Type 0
 IsNotClear S K e p =
-  (k : ℕ) × StandsAt K k e × IsLeast (IsUnclearAt S K) (length K) k × IsLeast (λ q. IsBetween S q e.lo e.hi) (length S) p
+    (k : ℕ) × StandsAt K k e × IsLeast (IsUnclearAt S K) (length K) k × IsLeast (λ q. IsBetween S q e.lo e.hi) (length S) p
 
 -- the pairs at positions a and b cross
 abbrev pub AreCrossingAt : List Point → List Pair → (a b : ℕ) → Type 0
@@ -40,7 +40,7 @@ AreCrossingAt S K a b = (e : Pair) × (f : Pair) × StandsAt K a e × StandsAt K
 -- e and f are the pairs at the first two positions whose pairs cross
 abbrev pub IsCrossing : List Point → List Pair → (e f : Pair) → Type 0
 IsCrossing S K e f =
-  (a : ℕ) × (b : ℕ) × StandsAt K a e × StandsAt K b f × IsFirstPair (AreCrossingAt S K) (length K) a b
+    (a : ℕ) × (b : ℕ) × StandsAt K a e × StandsAt K b f × IsFirstPair (AreCrossingAt S K) (length K) a b
 
 -- i-j is a border pair that isn't in the set
 abbrev pub IsMissing : List Point → List Pair → (i j : ℕ) → Type 0
@@ -49,7 +49,7 @@ IsMissing S K i j = IsBorderPair S i j × ¬ Joins K i j
 -- j is the least index above i with which i is a border pair that isn't in the set
 abbrev pub IsLeastMissingFrom : List Point → List Pair → (i j : ℕ) → Type 0
 IsLeastMissingFrom S K i j =
-  (i < j) × (j < length S) × IsMissing S K i j × ((k : ℕ) → i < k → k < j → ¬ IsMissing S K i k)
+    (i < j) × (j < length S) × IsMissing S K i j × ((k : ℕ) → i < k → k < j → ¬ IsMissing S K i k)
 
 -- e is the least border pair that isn't in the set
 abbrev pub IsMissingBorder : List Point → List Pair → Pair → Type 0

@@ -23,15 +23,11 @@ use doubled::first_doubled;
 use needs::first_unmet;
 use plane::{Pair, Points};
 
-/// The judgement on a list of segments: the first violation in the order of the variants of `Judgement`, or `Convex`
-/// exactly where the list has no pair twice and its set is a convex partition. Each variant shows the first case of its
-/// kind. (The challenge's condition; the order is this project's own.)
-pub fn judge(points: &Points, list: &[Pair]) -> Judgement
+// The first violation, or that there is none.
+fn first_violation(points: &Points, list: &[Pair]) -> Judgement
     requires within { AreWithin points.now list.now }
     requires fewer { length list.now < 2 ^ 32 }
-    ensures first { IsJudgement points.now list.now result }
-    ensures only { (j : Judgement) → IsJudgement points.now list.now j → j ≡ result }
-    ensures convex { (result ≡ Judgement.Convex (length list.now)) ↔ (AreDistinct list.now × IsConvexPartition points.now list.now) }
+    ensures { IsJudgement points.now list.now result }
 {
     if let Some(e) = first_doubled(list) {
         return Judgement::Doubled(e);
@@ -49,4 +45,18 @@ pub fn judge(points: &Points, list: &[Pair]) -> Judgement
         return Judgement::Unmet(p, q);
     }
     Judgement::Convex(list.len() as u32)
+}
+
+/// The judgement on a list of segments: the first violation in the order of the variants of `Judgement`, or `Convex`
+/// exactly where the list has no pair twice and its set is a convex partition. Each variant shows the first case of its
+/// kind, so the judgement is determined. The ends are indices of points. (The challenge's condition; the order is this
+/// project's own.)
+pub fn judge(points: &Points, list: &[Pair]) -> Judgement
+    requires within { AreWithin points.now list.now }
+    requires fewer { length list.now < 2 ^ 32 }
+    ensures first { IsJudgement points.now list.now result }
+    ensures only { (j : Judgement) → IsJudgement points.now list.now j → j ≡ result }
+    ensures convex { (result ≡ Judgement.Convex (length list.now)) ↔ (AreDistinct list.now × IsConvexPartition points.now list.now) }
+{
+    first_violation(points, list)
 }

@@ -86,9 +86,10 @@ fn first_unmet_at(points: &Points, list: &[Pair], p: u32) -> Option<u32>
     requires p_in { p < length points.now }
     ensures { MatchOption result (MeetsNeedsAt points.now list.now p) (IsLeast (IsUnmetAt points.now list.now p) (length points.now)) }
 {
+    let count = points.len();
     let mut marks = [false; MOST_POINTS];
     mark_met(points, list, p, &mut marks);
-    first_unmarked(&marks, points.len(), p)
+    first_unmarked(&marks, count, p)
 }
 
 // The same for an inner point, and none for another.

@@ -1,6 +1,5 @@
-use Rattle.std.proofs.Common.{◌≡◌, ◌≢◌, ◌<◌, ℕ, slice_index_or, length}
-use Rattle.plane.specs.Geometry.{IsBorderPair}
-use Rattle.partition_defs.specs.Partition.{Joins, HasBorderFrom}
+use Rattle.std.proofs.Common.{◌<◌, ℕ}
+use Rattle.partition_defs.specs.Partition.{HasBorderFrom}
 use Rattle.cp_judge.proofs.border.first_missing_border.Given as goal
 
 abbrev pub invariant-loop-i : goal.invariant-loop-i

@@ -1,5 +1,4 @@
 use Rattle.std.proofs.Common.{◌≡◌, ◌↔◌, IsTrue, rules, arith}
-use Rattle.std.proofs.lemmas.Grind.{common_steps}
 use Rattle.plane.specs.Geometry.{IsBorderPair}
 use Rattle.cp_judge.proofs.Items.{decided_border}
 use Rattle.cp_judge.proofs.border.is_missing.Goals as goal

@@ -9,5 +9,5 @@ pub loop-j-preserved : goal.loop-j-preserved
 loop-j-preserved c =
     let P : ℕ → Type 0 = λ j. c.args.i < j → IsBorderPair c.args.points.now c.args.i j → Joins c.args.list.now c.args.i j in
     let more : (j : ℕ) → j < c.loop-j.j + 1 → P j =
-        below_more P c.loop-j.j (λ j m o. c.loop-j.invariant j o m) (λ _. matched_false _ _ _ c.is_missing.ensures c.if-is_missing.false) in
+    below_more P c.loop-j.j (λ j m o. c.loop-j.invariant j o m) (λ _. matched_false _ _ _ c.is_missing.ensures c.if-is_missing.false) in
     λ j o m. more j m o

@@ -1,6 +1,6 @@
-use Rattle.std.proofs.Common.{◌≡◌, ◌≢◌, ◌<◌, ℕ, slice_index_or, length}
+use Rattle.std.proofs.Common.{◌<◌, ℕ}
 use Rattle.plane.specs.Geometry.{IsBorderPair}
-use Rattle.partition_defs.specs.Partition.{Joins, HasBorderFrom}
+use Rattle.partition_defs.specs.Partition.{Joins}
 use Rattle.cp_judge.proofs.border.least_missing_from.Given as goal
 
 abbrev pub invariant-loop-j : goal.invariant-loop-j

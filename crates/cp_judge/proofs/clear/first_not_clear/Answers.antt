@@ -8,4 +8,4 @@ first_between-requires c = c.requires c.e-item.result (c.loop-e.e-index, c.loop-
 pub returns-in-Some : goal.returns-in-Some
 returns-in-Some c =
     not_clear_found c.args.points.now c.args.list.now c.loop-e.e-index c.e-item.result c.in-Some.p (c.loop-e-test.true, sym c.e-item.is)
-        c.in-Some.ensures c.loop-e.invariant
+    c.in-Some.ensures c.loop-e.invariant

@@ -1,6 +1,6 @@
-use Rattle.std.proofs.Common.{◌≡◌, ◌≢◌, ◌<◌, ℕ, slice_index_or, length}
+use Rattle.std.proofs.Common.{◌≡◌, ◌<◌, ℕ, slice_index_or}
 use Rattle.plane.specs.declared.segment.Pair.{Pair}
-use Rattle.plane.specs.Geometry.{IsClear, IsBorderPair, IsInNeed, IsInner}
+use Rattle.plane.specs.Geometry.{IsClear}
 use Rattle.cp_judge.proofs.clear.first_not_clear.Given as goal
 
 abbrev pub invariant-loop-e : goal.invariant-loop-e

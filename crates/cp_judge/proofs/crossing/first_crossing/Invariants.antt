@@ -1,5 +1,5 @@
-use Rattle.std.proofs.Common.{◌≡◌, ◌≢◌, ◌<◌, ℕ, slice_index_or, length}
-use Rattle.cp_judge.specs.Violation.{StandsAt, IsRepeatedAt, AreCrossingAt}
+use Rattle.std.proofs.Common.{◌<◌, ℕ, length}
+use Rattle.cp_judge.specs.Violation.{AreCrossingAt}
 use Rattle.cp_judge.proofs.crossing.first_crossing.Given as goal
 
 abbrev pub invariant-loop-a : goal.invariant-loop-a

@@ -1,4 +1,4 @@
-use Rattle.std.proofs.Common.{ℕ, sym, arith}
+use Rattle.std.proofs.Common.{ℕ, arith}
 use borrow.Author.Count.{below_more}
 use Rattle.cp_judge.specs.Violation.{IsRepeatedAt}
 use Rattle.cp_judge.proofs.Items.{refused, distinct_from}

@@ -1,4 +1,4 @@
-use Rattle.std.proofs.Common.{◌≡◌, ◌≢◌, ◌<◌, ◌≤◌, ℕ, length, false}
+use Rattle.std.proofs.Common.{◌<◌, ℕ}
 use Rattle.plane.specs.Geometry.{IsInner}
 use Rattle.partition_defs.specs.Partition.{MeetsNeedsAt}
 use Rattle.cp_judge.proofs.needs.first_unmet.Given as goal

@@ -1,6 +1,6 @@
 -- How a list of segments fails to be a convex partition: each kind's first case, with what it shows. (This project's own
 -- order.)
-use Rattle.std.specs.Prelude.{◌≡◌, ◌≢◌, ℕ, ◌<◌, List, length, slice_index_or, Option, Some, None, Bool, false, IsTrue, ◌↔◌, ◌⊎◌}
+use Rattle.std.specs.Prelude.{◌≡◌, ◌≢◌, ℕ, ◌<◌, List, length, slice_index_or, Option, Some, None, MatchOption, ◌≤◌, Bool, false, IsTrue, ◌↔◌, ◌⊎◌}
 use Rattle.plane.specs.declared.coordinates.Point.{Point}
 use Rattle.plane.specs.declared.segment.Pair.{Pair}
 use Rattle.plane.specs.First.{IsLeast, IsFirstPair}
@@ -50,6 +50,17 @@ IsMissing S K i j = IsBorderPair S i j × ¬ Joins K i j
 abbrev pub IsLeastMissingFrom : List Point → List Pair → (i j : ℕ) → Type 0
 IsLeastMissingFrom S K i j =
     (i < j) × (j < length S) × IsMissing S K i j × ((k : ℕ) → i < k → k < j → ¬ IsMissing S K i k)
+
+-- o is the end of a step from i, where it is larger and the pair isn't in the set, or none
+abbrev pub IsMissingStep : List Pair → ℕ → (step o : Option ℕ) → Type 0
+IsMissingStep K i step o =
+    MatchOption o ((w : ℕ) → step ≡ Some w → i < w → Joins K i w) (λ w. (step ≡ Some w) × (i < w) × ¬ Joins K i w)
+
+-- o is the lesser one of a and b
+abbrev pub IsLesser : (a b o : Option ℕ) → Type 0
+IsLesser a b o =
+    MatchOption o ((a ≡ None) × (b ≡ None))
+    (λ r. ((a ≡ Some r) ⊎ (b ≡ Some r)) × ((x : ℕ) → (a ≡ Some x) ⊎ (b ≡ Some x) → r ≤ x))
 
 -- e is the least border pair that isn't in the set
 abbrev pub IsMissingBorder : List Point → List Pair → Pair → Type 0

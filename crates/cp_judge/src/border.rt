@@ -1,22 +1,31 @@
 // Border pairs that are missing.
-ghost use Rattle.std.specs.Prelude.{◌<◌, length, MatchBool, MatchOption};
-ghost use Rattle.partition_defs.specs.Partition.{Joins, HasBorder, HasBorderFrom};
-ghost use Rattle.plane.specs.Geometry.{IsBorderPair};
-ghost use Rattle.cp_judge.specs.Violation.{IsMissing, IsMissingBorder, IsLeastMissingFrom};
+ghost use Rattle.std.specs.Prelude.{◌<◌, length, MatchOption};
+ghost use Rattle.partition_defs.specs.Partition.{HasBorder, HasBorderFrom};
+ghost use Rattle.cp_judge.specs.Violation.{IsMissingBorder, IsLeastMissingFrom, IsMissingStep, IsLesser};
 
 use partition_defs::joins;
 use plane::{Pair, Points};
 
-// Whether the pair is a border pair that isn't in the list.
-fn is_missing(points: &Points, list: &[Pair], i: u32, j: u32) -> bool
-    requires ordered { i < j }
-    requires within { j < length points.now }
-    ensures { MatchBool result (IsMissing points.now list.now i j) (IsBorderPair points.now i j → Joins list.now i j) }
+// A border step's end, where it is the larger index and the pair isn't in the list.
+fn missing_step(list: &[Pair], i: u32, step: Option<u32>) -> Option<u32>
+    ensures { IsMissingStep list.now i step result }
 {
-    if !points.is_border(Pair::of(i, j)) {
-        return false;
+    let w = step?;
+    if i < w && !joins(list, i, w) {
+        return Some(w);
     }
-    !joins(list, i, j)
+    None
+}
+
+// The lesser one of two numbers, either of which may be none.
+fn lesser(a: Option<u32>, b: Option<u32>) -> Option<u32>
+    ensures { IsLesser a b result }
+{
+    match (a, b) {
+        (Some(x), Some(y)) => Some(x.min(y)),
+        (Some(x), None) => Some(x),
+        (None, y) => y,
+    }
 }
 
 // The least larger index with which this one is a border pair that isn't in the list, or none.
@@ -24,13 +33,10 @@ fn least_missing_from(points: &Points, list: &[Pair], i: u32) -> Option<u32>
     requires { i < length points.now }
     ensures { MatchOption result (HasBorderFrom points.now list.now i) (IsLeastMissingFrom points.now list.now i) }
 {
-    let count = points.len();
-    for j in i + 1..count {
-        if is_missing(points, list, i, j) {
-            return Some(j);
-        }
-    }
-    None
+    let _count = points.len();
+    let after = missing_step(list, i, points.border_after(i));
+    let before = missing_step(list, i, points.border_before(i));
+    lesser(after, before)
 }
 
 /// The least border pair that isn't in the list, or none.

@@ -1,13 +1,7 @@
-use Rattle.std.proofs.Common.{ℕ, ◌<◌, ◌+◌}
-use borrow.Author.Count.{below_more}
-use Rattle.plane.specs.Geometry.{IsBorderPair}
-use Rattle.partition_defs.specs.Partition.{Joins}
-use Rattle.cp_judge.proofs.Items.{matched_false}
+use Rattle.cp_judge.proofs.Steps.{least_from}
 use Rattle.cp_judge.proofs.border.least_missing_from.Goals as goal
 
-pub loop-j-preserved : goal.loop-j-preserved
-loop-j-preserved c =
-    let P : ℕ → Type 0 = λ j. c.args.i < j → IsBorderPair c.args.points.now c.args.i j → Joins c.args.list.now c.args.i j in
-    let more : (j : ℕ) → j < c.loop-j.j + 1 → P j =
-    below_more P c.loop-j.j (λ j m o. c.loop-j.invariant j o m) (λ _. matched_false _ _ _ c.is_missing.ensures c.if-is_missing.false) in
-    λ j o m. more j m o
+pub returns : goal.returns
+returns c =
+    least_from c.args.points.now c.args.list.now c.args.i c.border_after.result c.border_before.result c.missing_step-after.result c.missing_step-before.result c.lesser.result
+    c.len-count.ensures.accepted c.border_after.ensures c.border_before.ensures c.missing_step-after.ensures c.missing_step-before.ensures c.lesser.ensures

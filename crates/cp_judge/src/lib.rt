@@ -60,3 +60,6 @@ pub fn judge(points: &Points, list: &[Pair]) -> Judgement
 {
     first_violation(points, list)
 }
+
+#[cfg(test)]
+mod tests;

@@ -1,0 +1,6 @@
+//! What the program does: it reads its words, then its input, decides refusals, works, and writes.
+#![tactic(auto)]
+
+mod words;
+
+pub use words::Command;

@@ -1,2 +1,6 @@
 pub mod Determinant
 pub mod Wide
+pub mod Line
+pub mod Signs
+pub mod Area
+pub mod Along

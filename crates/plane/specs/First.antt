@@ -22,3 +22,8 @@ pub record IsFirstPair (R : ℕ → ℕ → Type 0) (n i j : ℕ) : Type 0 where
   pub within : j < n
   pub holds : R i j
   pub before : (k l : ℕ) → k < l → l < n → ComesBefore k l i j → ¬ R k l
+
+-- the first such pair, or none where no pair has R
+abbrev pub IsFirstPairOrNone : (ℕ → ℕ → Type 0) → ℕ → Option (ℕ × ℕ) → Type 0
+IsFirstPairOrNone R n None = (k l : ℕ) → k < l → l < n → ¬ R k l
+IsFirstPairOrNone R n (Some p) = IsFirstPair R n p.0 p.1

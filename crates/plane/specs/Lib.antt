@@ -1,3 +1,4 @@
 pub mod First
 pub mod Geometry
 pub mod Accepted
+pub mod Making

@@ -1,9 +1,10 @@
 // Accepted point sets.
-ghost use Rattle.std.specs.Prelude.{◌≡◌, ◌<◌, length, IfOk, IfErr};
+ghost use Rattle.std.specs.Prelude.{◌≡◌, ◌<◌, ◌^◌, ◌↔◌, length, vec_len, IfOk, IsOk};
 ghost use Rattle.plane.specs.Geometry.{point};
 ghost use Rattle.plane.specs.Accepted.{AreAccepted, IsFault, IsNear};
 
-use crate::coordinates::Point;
+use crate::coordinates::{BadPoints, Point};
+use crate::making::first_fault;
 use std::marker::Model;
 
 /// An accepted point set: 3 to 5,000 points within the limit, no two equal, not all on one line. Contracts see the list
@@ -26,6 +27,20 @@ impl Model for Points {
 }
 
 impl Points {
+    /// The points of a list, by their position, where the list is accepted; otherwise its first fault, in the order in
+    /// which the faults stand in `BadPoints`. (This project's own limits.)
+    pub fn make(list: Vec<Point>) -> Result<Points, BadPoints>
+        requires { vec_len list < 2 ^ 32 }
+        ensures list { IfOk result (λ points. points ≡ list.items) }
+        ensures accepted { IsOk result ↔ AreAccepted list.items }
+        ensures fault { (b : BadPoints) → (result ≡ Err b) ↔ IsFault list.items b }
+    {
+        match first_fault(list.as_slice()) {
+            Some(fault) => Err(fault),
+            None => Ok(Points { list }),
+        }
+    }
+
     /// How many points there are.
     pub fn len(&self) -> u32
         ensures count { result ≡ length self.now }

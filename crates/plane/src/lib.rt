@@ -5,6 +5,7 @@
 mod accepted;
 mod coordinates;
 mod kernel;
+mod making;
 mod predicates;
 mod segment;
 

@@ -1,0 +1,169 @@
+-- Points along one line: which lies between which, and on which side of them another point lies.
+use Rattle.std.proofs.Common.{◌≡◌, ◌≢◌, ℤ, pos, ◌+ℤ◌, ◌-ℤ◌, ◌*ℤ◌, neg_ℤ, ◌<ℤ◌, ◌≤ℤ◌, ◌⊎◌, inl, inr, arith, sym, ◌∙◌, ap}
+use Rattle.std.proofs.lemmas.Int.{ints}
+use Rattle.std.proofs.Math.IntN.{*ℤ_comm}
+use Rattle.plane.specs.declared.coordinates.Point.{Point}
+use Rattle.plane.specs.Geometry.{area, scalar, AreOpposite}
+use Rattle.plane.proofs.Determinant.{mul_difference, mul_assoc, swap_middle, zero_factor, parallel}
+use Rattle.plane.proofs.Signs.{negative_or, opposite_steps, negative_of_opposite, opposite_factors, products_agree, positive_positive, positive_negative, negative_positive, negative_negative, zero_left, zero_right, difference_zero}
+use Rattle.plane.proofs.Area.{area_cycle, area_swap, area_back, scalar_swap}
+use Rattle.plane.proofs.Line.{same_point, collinear}
+
+-- p is in line with q and r, and strictly between them
+abbrev pub LiesBetween : (p q r : Point) → Type 0
+LiesBetween p q r = (area q p r ≡ pos 0) × (scalar p q r <ℤ pos 0)
+
+zero_back : (p q r : Point) → area q p r ≡ pos 0 → area p q r ≡ pos 0
+zero_back p q r h = let e = area_back p q r in omega (arith, ints)
+
+pub between_swap : (p q r : Point) → LiesBetween p q r → LiesBetween p r q
+between_swap p q r h = (let e = area_cycle q p r in let f = area_cycle p r q in let g = area_back r p q in let k = area_swap p q r in let m = area_back p q r in omega (arith, ints, h.0), let e = scalar_swap p q r in omega (arith, ints, h.1))
+
+scale_across : (ux uy rx ry bx by : ℤ) → ux *ℤ ry ≡ uy *ℤ rx → ux *ℤ (bx *ℤ ry -ℤ by *ℤ rx) ≡ rx *ℤ (bx *ℤ uy -ℤ by *ℤ ux)
+scale_across ux uy rx ry bx by e =
+    let far : ux *ℤ (bx *ℤ ry) ≡ rx *ℤ (bx *ℤ uy) = swap_middle ux bx ry ∙ ap (λ x. bx *ℤ x) (e ∙ *ℤ_comm uy rx) ∙ swap_middle bx rx uy in
+    let near : ux *ℤ (by *ℤ rx) ≡ rx *ℤ (by *ℤ ux) = swap_middle ux by rx ∙ ap (λ x. by *ℤ x) (*ℤ_comm ux rx) ∙ swap_middle by rx ux in
+    mul_difference ux (bx *ℤ ry) (by *ℤ rx) ∙ ap (λ x. x -ℤ ux *ℤ (by *ℤ rx)) far ∙ ap (λ x. rx *ℤ (bx *ℤ uy) -ℤ x) near ∙ sym (mul_difference rx (bx *ℤ uy) (by *ℤ ux))
+
+scale_upward : (ux uy rx ry bx by : ℤ) → ux *ℤ ry ≡ uy *ℤ rx → uy *ℤ (bx *ℤ ry -ℤ by *ℤ rx) ≡ ry *ℤ (bx *ℤ uy -ℤ by *ℤ ux)
+scale_upward ux uy rx ry bx by e =
+    let far : uy *ℤ (bx *ℤ ry) ≡ ry *ℤ (bx *ℤ uy) = swap_middle uy bx ry ∙ ap (λ x. bx *ℤ x) (*ℤ_comm uy ry) ∙ swap_middle bx ry uy in
+    let near : uy *ℤ (by *ℤ rx) ≡ ry *ℤ (by *ℤ ux) = swap_middle uy by rx ∙ ap (λ x. by *ℤ x) (sym e ∙ *ℤ_comm ux ry) ∙ swap_middle by ry ux in
+    mul_difference uy (bx *ℤ ry) (by *ℤ rx) ∙ ap (λ x. x -ℤ uy *ℤ (by *ℤ rx)) far ∙ ap (λ x. ry *ℤ (bx *ℤ uy) -ℤ x) near ∙ sym (mul_difference ry (bx *ℤ uy) (by *ℤ ux))
+
+-- scaled by numbers of opposite signs, a negative number equals a positive one alone
+turned : (a c m n : ℤ) → AreOpposite a c → a *ℤ m ≡ c *ℤ n → m <ℤ pos 0 → pos 0 <ℤ n
+turned a c m n (inl h) e hm = let p = negative_negative a m h.0 hm in elim (negative_or n) [
+    inl n< ↦ absurd (let q = positive_negative c n h.1 n< in omega (arith, ints))
+  | inr rest ↦ elim rest [ inl z ↦ absurd (let q = zero_right c n z in omega (arith, ints)) | inr n> ↦ n> ] ]
+turned a c m n (inr h) e hm = let p = positive_negative a m h.0 hm in elim (negative_or n) [
+    inl n< ↦ absurd (let q = negative_negative c n h.1 n< in omega (arith, ints))
+  | inr rest ↦ elim rest [ inl z ↦ absurd (let q = zero_right c n z in omega (arith, ints)) | inr n> ↦ n> ] ]
+
+-- the steps from p to q and r, where p lies between
+steps_apart : (p q r : Point) → LiesBetween p q r → AreOpposite (q.x -ℤ p.x) (r.x -ℤ p.x) ⊎ ((q.x -ℤ p.x ≡ pos 0) × (r.x -ℤ p.x ≡ pos 0) × AreOpposite (q.y -ℤ p.y) (r.y -ℤ p.y))
+unfolding area scalar
+steps_apart p q r h = opposite_steps (q.x -ℤ p.x) (q.y -ℤ p.y) (r.x -ℤ p.x) (r.y -ℤ p.y) (zero_back p q r h.0) h.1
+
+-- Where p lies between q and r, a line through p that leaves one of them strictly right leaves the other strictly left.
+pub other_side : (p q r b : Point) → LiesBetween p q r → area p b r <ℤ pos 0 → pos 0 <ℤ area p b q
+unfolding area scalar
+other_side p q r b h right =
+    let ux = q.x -ℤ p.x in let uy = q.y -ℤ p.y in let rx = r.x -ℤ p.x in let ry = r.y -ℤ p.y in let bx = b.x -ℤ p.x in let by = b.y -ℤ p.y in
+    let line : ux *ℤ ry ≡ uy *ℤ rx = difference_zero (ux *ℤ ry) (uy *ℤ rx) (zero_back p q r h.0) in
+    elim (steps_apart p q r h) [
+      inl o ↦ turned ux rx (bx *ℤ ry -ℤ by *ℤ rx) (bx *ℤ uy -ℤ by *ℤ ux) o (scale_across ux uy rx ry bx by line) right
+    | inr o ↦ turned uy ry (bx *ℤ ry -ℤ by *ℤ rx) (bx *ℤ uy -ℤ by *ℤ ux) o.2 (scale_upward ux uy rx ry bx by line) right ]
+
+negative_sum : (ux uy rx ry : ℤ) → ux *ℤ ry -ℤ uy *ℤ rx ≡ pos 0 → AreOpposite ux rx → (ux *ℤ rx +ℤ uy *ℤ ry) <ℤ pos 0
+negative_sum ux uy rx ry line o =
+    let across = negative_of_opposite ux rx o in
+    let agree = products_agree ux rx uy ry line in
+    elim (negative_or (uy *ℤ ry)) [
+      inl h ↦ omega (arith, ints)
+    | inr rest ↦ elim rest [ inl z ↦ omega (arith, ints) | inr h ↦ absurd (let p = negative_positive (ux *ℤ rx) (uy *ℤ ry) across h in omega (arith, ints)) ] ]
+
+-- in line, and between by the first coordinate
+pub between_across : (p q r : Point) → area p q r ≡ pos 0 → AreOpposite (q.x -ℤ p.x) (r.x -ℤ p.x) → LiesBetween p q r
+unfolding area scalar
+between_across p q r line o = (zero_back q p r line, negative_sum (q.x -ℤ p.x) (q.y -ℤ p.y) (r.x -ℤ p.x) (r.y -ℤ p.y) line o)
+
+-- in line upward, and between by the second coordinate
+pub between_upward : (p q r : Point) → area p q r ≡ pos 0 → q.x -ℤ p.x ≡ pos 0 → AreOpposite (q.y -ℤ p.y) (r.y -ℤ p.y) → LiesBetween p q r
+unfolding area scalar
+between_upward p q r line z o = (zero_back q p r line,
+    (let up = negative_of_opposite (q.y -ℤ p.y) (r.y -ℤ p.y) o in
+     let e = zero_left (q.x -ℤ p.x) (r.x -ℤ p.x) z in omega (arith, ints)))
+
+ordered : (a b : ℤ) → a ≢ b → (a <ℤ b) ⊎ (b <ℤ a)
+ordered a b h = elim (negative_or (a -ℤ b)) [
+    inl l ↦ inl (omega (arith, ints))
+  | inr rest ↦ elim rest [ inl z ↦ absurd (h (difference_zero a b z)) | inr g ↦ inr (omega (arith, ints)) ] ]
+
+-- of three different numbers one is between the others
+middle : (a b c : ℤ) → a ≢ b → a ≢ c → b ≢ c → AreOpposite (b -ℤ a) (c -ℤ a) ⊎ (AreOpposite (a -ℤ b) (c -ℤ b) ⊎ AreOpposite (a -ℤ c) (b -ℤ c))
+middle a b c ab ac bc = elim (ordered a b ab) [
+    inl h ↦ elim (ordered a c ac) [
+      inl k ↦ elim (ordered b c bc) [ inl m ↦ inr (inl (inl (omega (arith, ints), omega (arith, ints)))) | inr m ↦ inr (inr (inl (omega (arith, ints), omega (arith, ints)))) ]
+    | inr k ↦ inl (inr (omega (arith, ints), omega (arith, ints))) ]
+  | inr h ↦ elim (ordered a c ac) [
+      inl k ↦ inl (inl (omega (arith, ints), omega (arith, ints)))
+    | inr k ↦ elim (ordered b c bc) [ inl m ↦ inr (inr (inr (omega (arith, ints), omega (arith, ints)))) | inr m ↦ inr (inl (inr (omega (arith, ints), omega (arith, ints)))) ] ] ]
+
+-- in line and level across means the same place, or level everywhere
+stays_level : (p q r : Point) → area p q r ≡ pos 0 → q.x ≢ p.x → r.x ≡ p.x → r.y ≡ p.y
+unfolding area
+stays_level p q r line apart level =
+    let rx : r.x -ℤ p.x ≡ pos 0 = omega (arith, ints) in
+    let flat : (q.x -ℤ p.x) *ℤ (r.y -ℤ p.y) ≡ pos 0 = difference_zero _ _ line ∙ zero_right (q.y -ℤ p.y) (r.x -ℤ p.x) rx in
+    elim (zero_factor (q.x -ℤ p.x) (r.y -ℤ p.y) flat) [ inl z ↦ absurd (apart (difference_zero q.x p.x z)) | inr z ↦ difference_zero r.y p.y z ]
+
+-- where p and q stand on a vertical line, a point in line with them stands on it too
+stays_upright : (p q r : Point) → area p q r ≡ pos 0 → q.x ≡ p.x → q.y ≢ p.y → r.x ≡ p.x
+unfolding area
+stays_upright p q r line level apart =
+    let qx : q.x -ℤ p.x ≡ pos 0 = omega (arith, ints) in
+    let flat : (q.y -ℤ p.y) *ℤ (r.x -ℤ p.x) ≡ pos 0 = sym (difference_zero _ _ line) ∙ zero_left (q.x -ℤ p.x) (r.y -ℤ p.y) qx in
+    elim (zero_factor (q.y -ℤ p.y) (r.x -ℤ p.x) flat) [ inl z ↦ absurd (apart (difference_zero q.y p.y z)) | inr z ↦ difference_zero r.x p.x z ]
+
+same_or_not : (a b : ℤ) → (a ≡ b) ⊎ (a ≢ b)
+same_or_not a b = elim (negative_or (a -ℤ b)) [
+    inl l ↦ inr (λ e. omega (arith, ints))
+  | inr rest ↦ elim rest [ inl z ↦ inl (difference_zero a b z) | inr g ↦ inr (λ e. omega (arith, ints)) ] ]
+
+-- Of three different points in line, one lies between the others.
+pub one_between : (p q r : Point) → p ≢ q → p ≢ r → q ≢ r → area p q r ≡ pos 0 → LiesBetween p q r ⊎ (LiesBetween q p r ⊎ LiesBetween r p q)
+one_between p q r pq pr qr line =
+    let at_q : area q p r ≡ pos 0 = (let e = area_back p q r in omega (arith, ints)) in
+    let at_r : area r p q ≡ pos 0 = (let e = area_cycle r p q in omega (arith, ints)) in
+    elim (same_or_not q.x p.x) [
+      inl level ↦
+        (let apart : q.y ≢ p.y = λ e. pq (same_point p q (sym level) (sym e)) in
+         let upright = stays_upright p q r line level apart in
+         elim (middle p.y q.y r.y (λ e. apart (sym e)) (λ e. pr (same_point p r (sym upright) e)) (λ e. qr (same_point q r (level ∙ sym upright) e))) [
+           inl o ↦ inl (between_upward p q r line (omega (arith, ints)) o)
+         | inr rest ↦ elim rest [ inl o ↦ inr (inl (between_upward q p r at_q (omega (arith, ints)) o)) | inr o ↦ inr (inr (between_upward r p q at_r (omega (arith, ints)) o)) ] ])
+    | inr apart ↦
+        (let far : p.x ≢ r.x = λ e. pr (same_point p r e (sym (stays_level p q r line apart (sym e)))) in
+         let near : q.x ≢ r.x = λ e. qr (same_point q r e (sym (stays_level q p r at_q (λ f. apart (sym f)) (sym e)))) in
+         elim (middle p.x q.x r.x (λ e. apart (sym e)) far near) [
+           inl o ↦ inl (between_across p q r line o)
+         | inr rest ↦ elim rest [ inl o ↦ inr (inl (between_across q p r at_q o)) | inr o ↦ inr (inr (between_across r p q at_r o)) ] ]) ]
+
+apart_of_between : (p q r : Point) → LiesBetween p q r → p ≢ r
+apart_of_between p q r h e =
+    elim (steps_apart p q r h) [
+      inl o ↦ (let f = ap (λ (a : Point). a.x) e in elim o [ inl k ↦ omega (arith, ints, k.1, f) | inr k ↦ omega (arith, ints, k.1, f) ])
+    | inr o ↦ (let f = ap (λ (a : Point). a.y) e in elim o.2 [ inl k ↦ omega (arith, ints, k.1, f) | inr k ↦ omega (arith, ints, k.1, f) ]) ]
+
+no_area : (p q : Point) → area p q p ≡ pos 0
+no_area p q = let e = area_cycle p q p in let f = area_swap p p q in let g = area_back p p q in omega (arith, ints)
+
+beyond_across : (w v r b : ℤ) → AreOpposite (w -ℤ v) (r -ℤ v) → AreOpposite (v -ℤ r) (b -ℤ r) → AreOpposite (w -ℤ v) (b -ℤ v)
+beyond_across w v r b (inl h) (inl k) = inl (h.0, omega (arith, ints, h.1, k.0, k.1))
+beyond_across w v r b (inl h) (inr k) = absurd (omega (arith, ints, h.1, k.0))
+beyond_across w v r b (inr h) (inl k) = absurd (omega (arith, ints, h.1, k.0))
+beyond_across w v r b (inr h) (inr k) = inr (h.0, omega (arith, ints, h.1, k.0, k.1))
+
+not_opposite_zero : (a b : ℤ) → a ≡ pos 0 → ¬ AreOpposite a b
+not_opposite_zero a b e (inl h) = omega (arith, ints, h.0, e)
+not_opposite_zero a b e (inr h) = omega (arith, ints, h.0, e)
+
+zero_not_opposite : (a b : ℤ) → b ≡ pos 0 → ¬ AreOpposite a b
+zero_not_opposite a b e (inl h) = omega (arith, ints, h.1, e)
+zero_not_opposite a b e (inr h) = omega (arith, ints, h.1, e)
+
+-- Where v lies between w and r, and r between v and b, v lies between w and b.
+pub between_beyond : (v w r b : Point) → LiesBetween v w r → LiesBetween r v b → LiesBetween v w b
+between_beyond v w r b h k =
+    let vr = apart_of_between v w r h in
+    let line_w : area v r w ≡ pos 0 = (let e = zero_back v w r h.0 in let f = area_swap v r w in omega (arith, ints)) in
+    let line_b : area v r b ≡ pos 0 = k.0 in
+    let line = collinear v r v w b vr (no_area v r) line_w line_b in
+    elim (steps_apart v w r h) [
+      inl o ↦ elim (steps_apart r v b k) [
+        inl m ↦ between_across v w b line (beyond_across w.x v.x r.x b.x o m)
+      | inr m ↦ absurd (zero_not_opposite (w.x -ℤ v.x) (r.x -ℤ v.x) (omega (arith, ints, m.0)) o) ]
+    | inr o ↦ elim (steps_apart r v b k) [
+        inl m ↦ absurd (not_opposite_zero (v.x -ℤ r.x) (b.x -ℤ r.x) (omega (arith, ints, o.1)) m)
+      | inr m ↦ between_upward v w b line o.0 (beyond_across w.y v.y r.y b.y o.2 m.2) ] ]

@@ -1,0 +1,23 @@
+-- How areas and scalar products change with the order of their points.
+use Rattle.std.proofs.Common.{◌≡◌, ◌≢◌, ℤ, pos, ◌+ℤ◌, ◌-ℤ◌, ◌*ℤ◌, neg_ℤ, ◌<ℤ◌, arith, sym, ◌∙◌}
+use Rattle.std.proofs.lemmas.Int.{ints}
+use Rattle.std.proofs.Math.IntN.{*ℤ_comm}
+use Rattle.plane.specs.declared.coordinates.Point.{Point}
+use Rattle.plane.specs.Geometry.{area, scalar}
+use Rattle.plane.proofs.Determinant.{det_cycle, det_swap, mul_differences}
+
+pub area_cycle : (p q r : Point) → area p q r ≡ area q r p
+unfolding area
+area_cycle p q r = det_cycle p.x p.y q.x q.y r.x r.y
+
+pub area_swap : (p q r : Point) → area p q r ≡ neg_ℤ (area p r q)
+unfolding area
+area_swap p q r = det_swap p.x p.y q.x q.y r.x r.y
+
+-- the line the other way round
+pub area_back : (p q r : Point) → area p q r ≡ neg_ℤ (area q p r)
+area_back p q r = let e = area_swap p q r in let f = area_cycle q p r in omega (arith, ints)
+
+pub scalar_swap : (p q r : Point) → scalar p q r ≡ scalar p r q
+unfolding scalar
+scalar_swap p q r = let e = *ℤ_comm (q.x -ℤ p.x) (r.x -ℤ p.x) in let f = *ℤ_comm (q.y -ℤ p.y) (r.y -ℤ p.y) in omega (arith, ints)

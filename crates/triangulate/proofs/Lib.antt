@@ -1,0 +1,4 @@
+pub mod Signs
+pub mod Field
+pub mod Turns
+pub mod Sides

@@ -5,3 +5,6 @@ pub mod Sides
 pub mod State
 pub mod Step
 pub mod Sweep
+pub mod Final
+pub mod Places
+pub mod Triangulated

@@ -8,3 +8,4 @@ pub mod Sweep
 pub mod Final
 pub mod Places
 pub mod Triangulated
+pub mod Placed

@@ -3,6 +3,7 @@ use Rattle.std.proofs.Common.{◌≡◌, ℕ, ℤ, pos, ◌+ℤ◌, ◌-ℤ◌, 
 use Rattle.std.specs.Prelude.{◌<ℤ◌, ◌≤ℤ◌}
 use Rattle.std.proofs.lemmas.Int.{ints}
 use Rattle.plane_laws.specs.Order.{AreInOrder}
+use Rattle.triangulate.specs.Sides.{UpTo}
 
 -- n points in a strict order
 pub record Setting : Type 1 where
@@ -66,17 +67,13 @@ by_place E i j hi hj f g h = elim (E.place i j hi hj) [ inl p ↦ f p | inr q �
 pub not_both : {P : Type 0} (E : Setting) (i j : ℕ) → E.B i j → E.B j i → P
 not_both E i j p q = absurd (E.irrefl i (E.trans i j i p q))
 
--- i comes no later than j
-abbrev pub UpTo : (E : Setting) (i j : ℕ) → Type 0
-UpTo E i j = (i ≡ j) ⊎ E.B i j
-
-pub up_to_before : (E : Setting) (i j k : ℕ) → UpTo E i j → E.B j k → E.B i k
+pub up_to_before : (E : Setting) (i j k : ℕ) → UpTo E.B i j → E.B j k → E.B i k
 up_to_before E i j k (inl e) h = subst (λ x. E.B x k) (sym e) h
 up_to_before E i j k (inr p) h = E.trans i j k p h
 
-pub before_up_to : (E : Setting) (i j k : ℕ) → E.B i j → UpTo E j k → E.B i k
+pub before_up_to : (E : Setting) (i j k : ℕ) → E.B i j → UpTo E.B j k → E.B i k
 before_up_to E i j k h (inl e) = subst (λ x. E.B i x) e h
 before_up_to E i j k h (inr p) = E.trans i j k h p
 
-pub up_to_not_before : {P : Type 0} (E : Setting) (i j : ℕ) → UpTo E i j → E.B j i → P
+pub up_to_not_before : {P : Type 0} (E : Setting) (i j : ℕ) → UpTo E.B i j → E.B j i → P
 up_to_not_before E i j h p = absurd (E.irrefl i (up_to_before E i j i h p))

@@ -4,7 +4,7 @@ pub mod Turns
 pub mod Sides
 pub mod State
 pub mod Step
-pub mod Sweep
+pub mod Moves
 pub mod Final
 pub mod Places
 pub mod Triangulated

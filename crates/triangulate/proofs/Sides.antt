@@ -5,17 +5,11 @@ use Rattle.std.proofs.lemmas.Int.{ints}
 use Rattle.plane_laws.specs.Order.{AreInOrder}
 use Rattle.plane_laws.proofs.Steps.{by_sign}
 use Rattle.triangulate.proofs.Signs.{second_falls, third_falls, second_rises, third_rises, first_rises, last_rises}
-use Rattle.triangulate.proofs.Field.{Setting, Laws, flip, zero_first, zero_ends, zero_last, by_place, not_both, UpTo}
-use Rattle.triangulate.proofs.Turns.{AllLeft, Clear, Beyond, not_positive, same_weak, no_sign}
+use Rattle.triangulate.proofs.Field.{Setting, Laws, flip, zero_first, zero_ends, zero_last, by_place, not_both}
+use Rattle.triangulate.proofs.Turns.{not_positive, same_weak, no_sign}
+use Rattle.triangulate.specs.Sides.{UpTo, AllLeft, Clear, Empty}
 
--- s is in the closed triangle p q r
-abbrev pub Inside : (o : ℕ → ℕ → ℕ → ℤ) (p q r s : ℕ) → Type 0
-Inside o p q r s = (pos 0 ≤ℤ o p q s) × (pos 0 ≤ℤ o q r s) × (pos 0 ≤ℤ o r p s)
-
-pub record Empty (E : Setting) (o : ℕ → ℕ → ℕ → ℤ) (p q r : ℕ) : Type 0 where
-  pub none : (s : ℕ) → s < E.n → s ≢ p → s ≢ q → s ≢ r → ¬ Inside o p q r s
-
-pub empty_next : (E : Setting) (o : ℕ → ℕ → ℕ → ℤ) (p q r : ℕ) → Empty E o p q r → Empty E o q r p
+pub empty_next : (E : Setting) (o : ℕ → ℕ → ℕ → ℤ) (p q r : ℕ) → Empty E.n E.B o p q r → Empty E.n E.B o q r p
 empty_next E o p q r h = record { none = λ s sn a b c g. h.none s sn c a b (g.2, g.0, g.1) }
 
 zero_between : (x y : ℤ) → y ≡ neg_ℤ x → pos 0 ≤ℤ x → pos 0 ≤ℤ y → x ≡ pos 0
@@ -36,7 +30,7 @@ zero_turned x y e h = omega (arith, ints)
 
 -- where z is right of the side a to b, no point lies in the triangle b a z
 pub empty_side : (E : Setting) (o : ℕ → ℕ → ℕ → ℤ) → Laws E o → (a b z : ℕ) → a < E.n → b < E.n → z < E.n → E.B a b → E.B b z
-    → AllLeft E o (λ s. E.B s z) a b → Clear E o a b → o a b z <ℤ pos 0 → Empty E o b a z
+    → AllLeft E.n E.B o (λ s. E.B s z) a b → Clear E.n E.B o a b → o a b z <ℤ pos 0 → Empty E.n E.B o b a z
 empty_side E o L a b z an bn zn hab hbz left clear h = record {
     none = λ s sn nb na nz g.
         by_place E s z sn zn
@@ -57,7 +51,7 @@ empty_side E o L a b z an bn zn hab hbz left clear h = record {
 
 -- where z isn't right of the side c to a, the points before a are left of a to z
 pub settled_before : (E : Setting) (o : ℕ → ℕ → ℕ → ℤ) → Laws E o → (c a z s : ℕ) → c < E.n → s < E.n → E.B c a → E.B a z
-    → AllLeft E o (λ s. E.B s z) c a → pos 0 ≤ℤ o c a z → E.B s a → pos 0 ≤ℤ o a z s
+    → AllLeft E.n E.B o (λ s. E.B s z) c a → pos 0 ≤ℤ o c a z → E.B s a → pos 0 ≤ℤ o a z s
 settled_before E o L c a z s cn sn hca haz left h hsa =
     let hs : pos 0 ≤ℤ o c a s = left s sn (E.trans s a z hsa haz) in
     same_weak (o s a z) (o a z s) (sym (L.cycle s a z))
@@ -94,8 +88,8 @@ both_signs x g h = omega (arith, ints)
 
 -- the two are the same side
 pub one_side : (E : Setting) (o : ℕ → ℕ → ℕ → ℤ) → Laws E o → (Q : ℕ → Type 0) → ((s : ℕ) → s < E.n → Q s) → (a b i j : ℕ) → a < E.n → b < E.n → i < E.n → j < E.n
-    → E.B a b → AllLeft E o Q a b → Clear E o a b → E.B i j → AllLeft E o Q i j → Clear E o i j
-    → UpTo E a i → E.B i b → (a ≡ i) × (b ≡ j)
+    → E.B a b → AllLeft E.n E.B o Q a b → Clear E.n E.B o a b → E.B i j → AllLeft E.n E.B o Q i j → Clear E.n E.B o i j
+    → UpTo E.B a i → E.B i b → (a ≡ i) × (b ≡ j)
 one_side E o L Q all a b i j an bn iN jn hab left clear hij left2 clear2 (inl e) hib =
     let hib2 : E.B a j = subst (λ x. E.B x j) (sym e) hij in
     let ajb : pos 0 ≤ℤ o a j b = subst (λ x. pos 0 ≤ℤ o x j b) (sym e) (left2 b bn (all b bn)) in

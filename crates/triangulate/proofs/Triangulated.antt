@@ -12,15 +12,17 @@ use Rattle.partition_defs.specs.Partition.{HasEnds, Joins, AreWithin, AreClear, 
 use Rattle.partition_defs.specs.Triangulation.{IsTriangulation, IsApex, HasLeft}
 use Rattle.partition_defs.specs.Sweep.{IsSweptBefore, IsSweptBeforeLater, IsSweepPair, AreSweepPairs}
 use Rattle.plane_laws.proofs.Between.{between_is_amid, amid_is_between}
-use Rattle.triangulate.proofs.Field.{Setting, Laws, AreTurned, UpTo, by_place}
-use Rattle.triangulate.proofs.Turns.{Clear, Cross, opposite_turned as opposite_signs}
-use Rattle.triangulate.proofs.State.{Links, Sweeps, Apex, Pairs, Whole, Chain}
+use Rattle.triangulate.proofs.Field.{Setting, Laws, AreTurned, by_place}
+use Rattle.triangulate.proofs.Turns.{opposite_turned as opposite_signs}
+
 use Rattle.triangulate.proofs.Final.{All, apex_of, border_of, linked, met_of, plane_of}
 use Rattle.triangulate.proofs.Places.{sweep_setting, plane_laws, opposite, opposite_laws, opposite_turned}
+use Rattle.triangulate.specs.Sides.{Clear}
+use Rattle.triangulate.specs.State.{Links, Sweeps, Apex, Pairs, Whole}
 
 -- the state of the sweep over the points S with all of them in it
 abbrev pub Swept : (S : List Point) → AreApart S → List Pair → (r r2 : List ℕ) → (z : ℕ) → Type 0
-Swept S apart T r r2 z = Whole (sweep_setting S apart) (orientation S) (opposite S) (Joins T) r r2 z
+Swept S apart T r r2 z = Whole (length S) (IsSweptBefore S) (orientation S) (opposite S) (Joins T) r r2 z
 
 pub joins_own : (T : List Pair) (e : Pair) → Contains T e → Joins T e.lo e.hi
 joins_own T e h = (h.0, e, h.1, h.2, inl (refl, refl))
@@ -38,11 +40,11 @@ between_swap S apart k i j h =
     (zero_round (orientation S i k j) (orientation S k j i) (orientation S j k i) (L.cycle i k j) (L.swap k j i) h.0,
      subst (λ x. x <ℤ pos 0) (scalar_swap (point S k) (point S i) (point S j)) h.1)
 
-pub clear_from : (S : List Point) (apart : AreApart S) (i j : ℕ) → IsSweptBefore S i j → Clear (sweep_setting S apart) (orientation S) i j → IsClear S i j
+pub clear_from : (S : List Point) (apart : AreApart S) (i j : ℕ) → IsSweptBefore S i j → Clear (length S) (IsSweptBefore S) (orientation S) i j → IsClear S i j
 clear_from S apart i j hij clear k kn h =
     let m = between_is_amid (point S k) (point S i) (point S j) hij h.0 h.1 in clear k kn m.0 m.1 h.0
 
-pub clear_to : (S : List Point) (apart : AreApart S) (i j : ℕ) → IsClear S i j → Clear (sweep_setting S apart) (orientation S) i j
+pub clear_to : (S : List Point) (apart : AreApart S) (i j : ℕ) → IsClear S i j → Clear (length S) (IsSweptBefore S) (orientation S) i j
 clear_to S apart i j clear s sn his hsj e = clear s sn (e, amid_is_between (point S s) (point S i) (point S j) his hsj e)
 
 pub clear_swap : (S : List Point) (apart : AreApart S) (i j : ℕ) → IsClear S i j → IsClear S j i
@@ -58,7 +60,7 @@ later : (S : List Point) (apart : AreApart S) (i j k : ℕ) → IsSweptBefore S 
 later S apart i j k hij (inl h) = (sweep_setting S apart).trans k i j h hij
 later S apart i j k hij (inr h) = h
 
-sweep_pair_ordered : (S : List Point) (apart : AreApart S) (i j : ℕ) → IsSweptBefore S i j → Sweeps (sweep_setting S apart) (orientation S) i j → IsSweepPair S i j
+sweep_pair_ordered : (S : List Point) (apart : AreApart S) (i j : ℕ) → IsSweptBefore S i j → Sweeps (length S) (IsSweptBefore S) (orientation S) i j → IsSweepPair S i j
 sweep_pair_ordered S apart i j hij s =
     let E : Setting = sweep_setting S apart in
     (clear_from S apart i j hij s.clear,
@@ -72,7 +74,7 @@ sweep_pair_swap S apart i j h =
 pub sweep_pair_of : (S : List Point) (apart : AreApart S) (T : List Pair) (r r2 : List ℕ) (z : ℕ) → Swept S apart T r r2 z → (i j : ℕ) → Joins T i j → IsSweepPair S i j
 sweep_pair_of S apart T r r2 z m i j k =
     let E : Setting = sweep_setting S apart in
-    let M : Pairs E (orientation S) (Joins T) z = m.pairs in
+    let M : Pairs E.n E.B (orientation S) (Joins T) z = m.pairs in
     by_place E i j (M.in_first i j k) (M.in_first j i (M.back i j k))
         (λ h. sweep_pair_ordered S apart i j h (M.sweeps i j k h))
         (λ e. absurd (M.differ i j k e))
@@ -104,17 +106,17 @@ less_differ i j h e = omega arith
 
 met_in : (S : List Point) (apart : AreApart S) (T : List Pair) (r r2 : List ℕ) (z : ℕ) → Swept S apart T r r2 z → (p : ℕ) → (q : ℕ) × Joins T p q → (q : ℕ) × (q < length S) × Joins T p q
 met_in S apart T r r2 z m p h =
-    let M : Pairs (sweep_setting S apart) (orientation S) (Joins T) z = m.pairs in
+    let M : Pairs (length S) (IsSweptBefore S) (orientation S) (Joins T) z = m.pairs in
     (h.0, M.in_first h.0 p (M.back p h.0 h.1), h.1)
 
-apex_in : (S : List Point) (apart : AreApart S) (T : List Pair) (p q : ℕ) → Apex (sweep_setting S apart) (orientation S) (Joins T) p q → (r : ℕ) × IsApex S T p q r
+apex_in : (S : List Point) (apart : AreApart S) (T : List Pair) (p q : ℕ) → Apex (length S) (IsSweptBefore S) (orientation S) (Joins T) p q → (r : ℕ) × IsApex S T p q r
 apex_in S apart T p q a = (a.r, (a.r_in, a.first, a.second, a.left, λ s sn np nq nr h. a.empty.none s sn np nq nr h))
 
 pub is_triangulation : (S : List Point) (apart : AreApart S) (T : List Pair) (r r2 : List ℕ) (z u : ℕ) → Swept S apart T r r2 z → All (sweep_setting S apart) z
     → u < length S → u ≢ z → IsTriangulation S T
 is_triangulation S apart T r r2 z u m all un hu =
     let E : Setting = sweep_setting S apart in
-    let M : Pairs E (orientation S) (Joins T) z = m.pairs in
+    let M : Pairs E.n E.B (orientation S) (Joins T) z = m.pairs in
     record {
         within = λ e h. M.in_first e.hi e.lo (M.back e.lo e.hi (joins_own T e h));
         clear = λ e h. (sweep_pair_of S apart T r r2 z m e.lo e.hi (joins_own T e h)).0;

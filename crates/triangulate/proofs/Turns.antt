@@ -6,25 +6,11 @@ use Rattle.plane_laws.specs.Order.{AreInOrder}
 use Rattle.plane.specs.Geometry.{AreOpposite}
 use Rattle.triangulate.proofs.Signs.{second_falls, third_falls, second_rises, third_rises, first_rises, last_rises}
 use Rattle.triangulate.proofs.Field.{Setting, Laws, flip, zero_first, zero_ends, zero_last, by_place, not_both}
-
--- all the points with Q are on the left of a to b, or on it
-abbrev pub AllLeft : (E : Setting) (o : ℕ → ℕ → ℕ → ℤ) (Q : ℕ → Type 0) (a b : ℕ) → Type 0
-AllLeft E o Q a b = (s : ℕ) → s < E.n → Q s → pos 0 ≤ℤ o a b s
-
--- no point is between a and b
-abbrev pub Clear : (E : Setting) (o : ℕ → ℕ → ℕ → ℤ) (a b : ℕ) → Type 0
-Clear E o a b = (s : ℕ) → s < E.n → E.B a s → E.B s b → o a s b ≢ pos 0
-
--- the points after a and before z are strictly left of a to z
-abbrev pub Beyond : (E : Setting) (o : ℕ → ℕ → ℕ → ℤ) (a z : ℕ) → Type 0
-Beyond E o a z = (s : ℕ) → s < E.n → E.B a s → E.B s z → pos 0 <ℤ o a z s
+use Rattle.triangulate.specs.Sides.{AllLeft, Beyond, Cross}
 
 -- the chain doesn't turn to the right at a
-abbrev pub Spine : (E : Setting) (o : ℕ → ℕ → ℕ → ℤ) (a z : ℕ) → Type 0
-Spine E o a z = (k l : ℕ) → k < E.n → l < E.n → E.B k a → E.B a l → E.B l z → pos 0 ≤ℤ o k a l
-
-abbrev pub Cross : (o : ℕ → ℕ → ℕ → ℤ) (a b c d : ℕ) → Type 0
-Cross o a b c d = AreOpposite (o a b c) (o a b d) × AreOpposite (o c d a) (o c d b)
+abbrev pub Spine : (n : ℕ) (B : ℕ → ℕ → Type 0) (o : ℕ → ℕ → ℕ → ℤ) (a z : ℕ) → Type 0
+Spine n B o a z = (k l : ℕ) → k < n → l < n → B k a → B a l → B l z → pos 0 ≤ℤ o k a l
 
 pub negative : (x y : ℤ) → y ≡ neg_ℤ x → x <ℤ pos 0 → pos 0 <ℤ y
 negative x y e h = omega (arith, ints)
@@ -37,7 +23,7 @@ same_weak x y e h = omega (arith, ints)
 
 -- where z is right of the side a to b, the points after a are left of a to z
 pub beyond_side : (E : Setting) (o : ℕ → ℕ → ℕ → ℤ) → Laws E o → (a b z : ℕ) → b < E.n → E.B a b → E.B b z
-    → AllLeft E o (λ s. E.B s z) a b → o a b z <ℤ pos 0 → Beyond E o a z
+    → AllLeft E.n E.B o (λ s. E.B s z) a b → o a b z <ℤ pos 0 → Beyond E.n E.B o a z
 beyond_side E o L a b z bn hab hbz left h s sn has hsz =
     by_place E s b sn bn
         (λ p. negative (o a s z) (o a z s) (flip E o L a s z)
@@ -49,7 +35,7 @@ beyond_side E o L a b z bn hab hbz left h s sn has hsz =
 
 -- a side's first point is on the spine
 pub spine_side : (E : Setting) (o : ℕ → ℕ → ℕ → ℤ) → Laws E o → (a b z : ℕ) → b < E.n → E.B a b → E.B b z
-    → AllLeft E o (λ s. E.B s z) a b → Spine E o a z
+    → AllLeft E.n E.B o (λ s. E.B s z) a b → Spine E.n E.B o a z
 spine_side E o L a b z bn hab hbz left k l kn ln hka hal hlz =
     let kab : pos 0 ≤ℤ o k a b = same_weak (o a b k) (o k a b) (L.cycle k a b) (left k kn (E.trans k a z hka (E.trans a b z hab hbz))) in
     by_place E l b ln bn
@@ -99,7 +85,7 @@ two_signs x g h = absurd (omega (arith, ints))
 
 -- a joined pair crosses nothing among the points before its later end: k right and l left of it
 crosses_none : (E : Setting) (o : ℕ → ℕ → ℕ → ℤ) → Laws E o → (a z k l : ℕ) → a < E.n → k < E.n → l < E.n → E.B a z → E.B k z → E.B l z
-    → Beyond E o a z → Spine E o a z → o a z k <ℤ pos 0 → pos 0 <ℤ o a z l → AreOpposite (o k l a) (o k l z) → ⊥
+    → Beyond E.n E.B o a z → Spine E.n E.B o a z → o a z k <ℤ pos 0 → pos 0 <ℤ o a z l → AreOpposite (o k l a) (o k l z) → ⊥
 crosses_none E o L a z k l an kn ln haz hkz hlz beyond spine hk hl h =
     by_place E a k an kn
         (λ p. two_signs (o a z k) hk (beyond k kn p hkz))
@@ -119,7 +105,7 @@ crosses_none E o L a z k l an kn ln haz hkz hlz beyond spine hk hl h =
                             (opposite_turned (o k l a) (o k l z) (o l k a) (o l k z) (L.swap k l a) (L.swap k l z) h) laz kaz)))
 
 pub no_crossing : (E : Setting) (o : ℕ → ℕ → ℕ → ℤ) → Laws E o → (a z k l : ℕ) → a < E.n → k < E.n → l < E.n → E.B a z → E.B k z → E.B l z
-    → Beyond E o a z → Spine E o a z → ¬ Cross o a z k l
+    → Beyond E.n E.B o a z → Spine E.n E.B o a z → ¬ Cross o a z k l
 no_crossing E o L a z k l an kn ln haz hkz hlz beyond spine h =
     elim h.0 [
         inl g ↦ crosses_none E o L a z k l an kn ln haz hkz hlz beyond spine g.0 g.1 h.1

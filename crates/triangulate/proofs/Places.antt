@@ -11,6 +11,7 @@ use Rattle.plane_laws.specs.Order.{IsBefore, AreInOrder}
 use Rattle.plane_laws.proofs.Orientations.{area_cycle, area_swap, in_order}
 use Rattle.plane_laws.proofs.Between.{by_order}
 use Rattle.triangulate.proofs.Field.{Setting, Laws, AreTurned, turned_laws}
+use Rattle.triangulate.specs.Swept.{opposite}
 
 pub before_trans : (p q r : Point) → IsBefore p q → IsBefore q r → IsBefore p r
 before_trans p q r (inl g) (inl h) = inl (omega (arith, ints))
@@ -49,10 +50,6 @@ plane_laws S apart = record {
     swap = λ i j k. area_swap (point S i) (point S j) (point S k);
     order = λ i j k l p q r. in_order (point S i) (point S j) (point S k) (point S l) p q r
 }
-
--- the orientation turned over
-abbrev pub opposite : List Point → (p q r : ℕ) → ℤ
-opposite S p q r = neg_ℤ (orientation S p q r)
 
 pub opposite_laws : (S : List Point) (apart : AreApart S) → Laws (sweep_setting S apart) (opposite S)
 opposite_laws S apart = turned_laws (sweep_setting S apart) (orientation S) (plane_laws S apart)

@@ -16,9 +16,10 @@ use Rattle.triangulate.proofs.Field.{Setting, Laws, AreTurned, by_place}
 use Rattle.triangulate.proofs.Turns.{opposite_turned as opposite_signs}
 
 use Rattle.triangulate.proofs.Final.{All, apex_of, border_of, linked, met_of, plane_of}
-use Rattle.triangulate.proofs.Places.{sweep_setting, plane_laws, opposite, opposite_laws, opposite_turned}
+use Rattle.triangulate.proofs.Places.{sweep_setting, plane_laws, opposite_laws, opposite_turned}
 use Rattle.triangulate.specs.Sides.{Clear}
 use Rattle.triangulate.specs.State.{Links, Sweeps, Apex, Pairs, Whole}
+use Rattle.triangulate.specs.Swept.{opposite}
 
 -- the state of the sweep over the points S with all of them in it
 abbrev pub Swept : (S : List Point) → AreApart S → List Pair → (r r2 : List ℕ) → (z : ℕ) → Type 0

@@ -12,3 +12,6 @@ pub mod Placed
 pub mod Seen
 pub mod Joined
 pub mod Added
+pub mod Count
+pub mod Ordered
+pub mod Border

@@ -134,7 +134,7 @@ start E o w L M J J2 r r2 z last m zn hlz next add =
               | inr e ↦ absurd (E.irrefl z (subst (λ x. E.B x z) (sym e.1) hlz)) ] ]
     }
 
-link_below : (E : Setting) (t : ℕ) (r : List ℕ) → ((a b : ℕ) → Links t r a b → E.B a b) → (p q : ℕ) → Links t r p q → UpTo E.B q t
+pub link_below : (E : Setting) (t : ℕ) (r : List ℕ) → ((a b : ℕ) → Links t r a b → E.B a b) → (p q : ℕ) → Links t r p q → UpTo E.B q t
 link_below E t [] f p q k = elim k [ ]
 link_below E t (s ∷ r) f p q (inl e) = inl e.1
 link_below E t (s ∷ r) f p q (inr k) = inr (up_to_before E q s t (link_below E s r (λ a b l. f a b (inr l)) p q k) (f s t (inl (refl, refl))))

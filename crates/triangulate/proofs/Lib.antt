@@ -15,3 +15,4 @@ pub mod Added
 pub mod Count
 pub mod Ordered
 pub mod Border
+pub mod Done

@@ -3,10 +3,10 @@ use Rattle.std.specs.Prelude.{◌≡◌, ◌+◌, ◌*◌, ◌<◌, ℕ, ℤ, po
 use Rattle.plane.specs.declared.coordinates.Point.{Point}
 use Rattle.plane.specs.declared.segment.Pair.{Pair}
 use Rattle.plane.specs.Geometry.{orientation}
-use Rattle.plane.specs.Accepted.{AreApart}
+use Rattle.plane.specs.Accepted.{AreApart, AreAccepted}
 use Rattle.partition_defs.specs.Partition.{Joins}
-use Rattle.partition_defs.specs.Triangulation.{AreDistinct}
-use Rattle.partition_defs.specs.Sweep.{IsSweptBefore}
+use Rattle.partition_defs.specs.Triangulation.{AreDistinct, IsTriangulation, HasTriangulationCount}
+use Rattle.partition_defs.specs.Sweep.{IsSweptBefore, AreSweepPairs}
 use Rattle.triangulate.specs.declared.sweep.Part.{Part}
 use Rattle.triangulate.specs.declared.sweep.Part.TheVariants.{Lower, Upper}
 use Rattle.triangulate.specs.Sides.{UpTo}
@@ -68,3 +68,17 @@ pub record IsNext (S : List Point) (last z : ℕ) : Type 0 where
   pub within : z < length S
   pub before : IsSweptBefore S last z
   pub next : (s : ℕ) → s < length S → IsSweptBefore S s z → UpTo (IsSweptBefore S) s last
+
+-- the state after all points
+pub record IsSweptWhole (S : List Point) (T : List Pair) (l l2 : List ℕ) : Type 0 where
+  pub accepted : AreAccepted S
+  pub z : ℕ
+  pub swept : IsSwept S T l l2 z (length S)
+  pub all : (s : ℕ) → s < length S → UpTo (IsSweptBefore S) s z
+
+-- a triangulation of sweep pairs
+pub record IsSweepTriangulation (S : List Point) (T : List Pair) : Type 0 where
+  pub distinct : AreDistinct T
+  pub triangulation : IsTriangulation S T
+  pub count : HasTriangulationCount S T
+  pub sweep : AreSweepPairs S T

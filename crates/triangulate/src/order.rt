@@ -24,6 +24,7 @@ fn with_indices(alloc: Global, points: &Points) -> Result<Vec<(Point, u32)>, All
 
 // Each point with its index, by x and then by y.
 fn placed(alloc: Global, points: &Points) -> Result<Vec<(Point, u32)>, AllocError>
+    ensures accepted { AreAccepted points.now }
     ensures placed { IfOk result (λ v. ArePlaced points.now v.items) }
 {
     let mut placed = with_indices(alloc, points)?;
@@ -40,7 +41,8 @@ fn indices(alloc: Global, placed: &[(Point, u32)]) -> Result<Vec<u32>, AllocErro
 
 /// The indices of the points in the order in which the sweep meets them: by x, then by y.
 pub fn sweep_order(alloc: Global, points: &Points) -> Result<Vec<u32>, AllocError>
-    ensures { IfOk result (λ v. IsSweepOrder points.now v.items) }
+    ensures accepted { AreAccepted points.now }
+    ensures order { IfOk result (λ v. IsSweepOrder points.now v.items) }
 {
     let placed = placed(alloc, points)?;
     indices(alloc, &placed)

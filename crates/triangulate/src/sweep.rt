@@ -1,9 +1,14 @@
 // The sweep. It keeps the border of the points so far and joins each new point to all border points that it sees.
 ghost use Rattle.std.specs.Prelude.{◌≡◌, ◌<◌, ℕ, List, length, IsTrue, ◌↔◌, pos, ◌<ℤ◌, MatchOption, IfOk, [], ◌∷◌, ◌+◌};
 ghost use Rattle.std.specs.List.{All};
-ghost use Rattle.triangulate.specs.Swept.{turn, other_turn, IsJoining, IsSettled, IsSeen, IsSwept, IsNext};
+ghost use Rattle.plane.specs.Accepted.{AreAccepted};
+ghost use Rattle.partition_defs.specs.Triangulation.{AreDistinct, IsTriangulation, HasTriangulationCount};
+ghost use Rattle.partition_defs.specs.Sweep.{AreSweepPairs};
+ghost use Rattle.triangulate.specs.Order.{IsSweepOrder};
+ghost use Rattle.triangulate.specs.Swept.{turn, other_turn, IsJoining, IsSettled, IsSeen, IsSwept, IsNext, IsSweptWhole};
 
 use crate::chain::Chain;
+use crate::order::sweep_order;
 use plane::{Pair, Points, Turn};
 use std::alloc::{AllocError, Global};
 
@@ -93,4 +98,31 @@ impl Sweep {
         self.upper.push(z)?;
         Ok(())
     }
+}
+
+// The sweep through all points in their order.
+fn sweep_through(alloc: Global, points: &Points, order: &[u32]) -> Result<Sweep, AllocError>
+    requires accepted { AreAccepted points.now }
+    requires order { IsSweepOrder points.now order.now }
+    ensures { IfOk result (λ s. IsSweptWhole points.now s.pairs.items s.lower s.upper) }
+{
+    let mut sweep = Sweep::begin(alloc, order[0])?;
+    for k in 1..order.len() {
+        sweep.add(points, order[k - 1], order[k])?;
+    }
+    Ok(sweep)
+}
+
+/// The segments of the sweep triangulation, each once: the sweep meets the points by x and then by y, and joins each to
+/// all points before it that it sees. With n points of which h segments are on the border, there are 3n - 3 - h.
+/// (This project's own choice of a fixed start, after the textbook's sweep.)
+pub fn sweep_pairs(alloc: Global, points: &Points) -> Result<Vec<Pair>, AllocError>
+    ensures distinct { IfOk result (λ v. AreDistinct v.items) }
+    ensures triangulation { IfOk result (λ v. IsTriangulation points.now v.items) }
+    ensures count { IfOk result (λ v. HasTriangulationCount points.now v.items) }
+    ensures sweep { IfOk result (λ v. AreSweepPairs points.now v.items) }
+{
+    let order = sweep_order(alloc, points)?;
+    let sweep = sweep_through(alloc, points, &order)?;
+    Ok(sweep.pairs)
 }

@@ -20,20 +20,31 @@ AreWithin S K = (e : Pair) → Contains K e → e.hi < length S
 abbrev pub AreClear : List Point → List Pair → Type 0
 AreClear S K = (e : Pair) → Contains K e → IsClear S e.lo e.hi
 
+-- the segment crosses none of them
+abbrev pub CrossesNone : List Point → List Pair → Pair → Type 0
+CrossesNone S K e = (f : Pair) → Contains K f → ¬ AreCrossing S e.lo e.hi f.lo f.hi
+
 -- no two segments cross
 abbrev pub ArePlane : List Point → List Pair → Type 0
 ArePlane S K = (e f : Pair) → Contains K e → Contains K f → ¬ AreCrossing S e.lo e.hi f.lo f.hi
 
+-- each border pair with i as its smaller index is in the set
+abbrev pub HasBorderFrom : List Point → List Pair → ℕ → Type 0
+HasBorderFrom S K i = (j : ℕ) → i < j → j < length S → IsBorderPair S i j → Joins K i j
+
 abbrev pub HasBorder : List Point → List Pair → Type 0
-HasBorder S K = (i j : ℕ) → i < j → j < length S → IsBorderPair S i j → Joins K i j
+HasBorder S K = (i : ℕ) → HasBorderFrom S K i
 
 -- some segment at p has its other end in the need of p for q
 abbrev pub IsMet : List Point → List Pair → (p q : ℕ) → Type 0
 IsMet S K p q = (r : ℕ) × (r < length S) × Joins K p r × IsInNeed S p q r
 
--- each inner point has all its needs met
+-- all needs of p are met
+abbrev pub MeetsNeedsAt : List Point → List Pair → ℕ → Type 0
+MeetsNeedsAt S K p = (q : ℕ) → q < length S → q ≢ p → IsMet S K p q
+
 abbrev pub MeetsNeeds : List Point → List Pair → Type 0
-MeetsNeeds S K = (p q : ℕ) → p < length S → q < length S → q ≢ p → IsInner S p → IsMet S K p q
+MeetsNeeds S K = (p : ℕ) → p < length S → IsInner S p → MeetsNeedsAt S K p
 
 -- a convex partition
 pub record IsConvexPartition (S : List Point) (K : List Pair) : Type 0 where

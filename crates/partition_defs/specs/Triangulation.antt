@@ -9,7 +9,7 @@ use Rattle.partition_defs.specs.Partition.{Joins, AreWithin, AreClear, ArePlane,
 -- s lies in the closed triangle p q r, whose corners are counterclockwise
 abbrev pub IsInTriangle : List Point → (p q r s : ℕ) → Type 0
 IsInTriangle S p q r s =
-  (pos 0 ≤ℤ orientation S p q s) × (pos 0 ≤ℤ orientation S q r s) × (pos 0 ≤ℤ orientation S r p s)
+    (pos 0 ≤ℤ orientation S p q s) × (pos 0 ≤ℤ orientation S q r s) × (pos 0 ≤ℤ orientation S r p s)
 
 -- the closed triangle p q r has no further point
 abbrev pub IsEmptyTriangle : List Point → (p q r : ℕ) → Type 0
@@ -18,7 +18,7 @@ IsEmptyTriangle S p q r = (s : ℕ) → s < length S → s ≢ p → s ≢ q →
 -- r is the apex of p to q: with them it spans an empty triangle of the set, on the left
 abbrev pub IsApex : List Point → List Pair → (p q r : ℕ) → Type 0
 IsApex S T p q r =
-  (r < length S) × Joins T p r × Joins T q r × (pos 0 <ℤ orientation S p q r) × IsEmptyTriangle S p q r
+    (r < length S) × Joins T p r × Joins T q r × (pos 0 <ℤ orientation S p q r) × IsEmptyTriangle S p q r
 
 -- some point is strictly left of the line from p to q
 abbrev pub HasLeft : List Point → (p q : ℕ) → Type 0

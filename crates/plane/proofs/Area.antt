@@ -1,10 +1,10 @@
 -- How areas and scalar products change with the order of their points.
-use Rattle.std.proofs.Common.{◌≡◌, ◌≢◌, ℤ, pos, ◌+ℤ◌, ◌-ℤ◌, ◌*ℤ◌, neg_ℤ, ◌<ℤ◌, arith, sym, ◌∙◌}
+use Rattle.std.proofs.Common.{◌≡◌, ◌-ℤ◌, neg_ℤ, arith}
 use Rattle.std.proofs.lemmas.Int.{ints}
 use Rattle.std.proofs.Math.IntN.{*ℤ_comm}
 use Rattle.plane.specs.declared.coordinates.Point.{Point}
 use Rattle.plane.specs.Geometry.{area, scalar}
-use Rattle.plane.proofs.Determinant.{det_cycle, det_swap, mul_differences}
+use Rattle.plane.proofs.Determinant.{det_cycle, det_swap}
 
 pub area_cycle : (p q r : Point) → area p q r ≡ area q r p
 unfolding area

@@ -1,5 +1,5 @@
 -- Whole numbers: products over sums, and what determinants of differences are.
-use Rattle.std.proofs.Common.{◌≡◌, ℕ, suc, zero, ℤ, pos, negsuc, ◌+ℤ◌, ◌-ℤ◌, ◌*ℤ◌, neg_ℤ, arith, sym, ◌∙◌, refl, ap, ◌⊎◌, inl, inr}
+use Rattle.std.proofs.Common.{◌≡◌, suc, zero, ℤ, pos, negsuc, ◌+ℤ◌, ◌-ℤ◌, ◌*ℤ◌, neg_ℤ, arith, sym, ◌∙◌, refl, ap, ◌⊎◌, inl, inr}
 use Rattle.std.proofs.Math.IntN.{ℤ_ind, suc_ℤ-*ℤ, pred_ℤ-*ℤ, +ℤ_one, -ℤ_one, zero-*ℤ, *ℤ_comm, suc_ℤ, pred_ℤ}
 use Rattle.std.proofs.lemmas.Int.{ints}
 
@@ -19,10 +19,10 @@ down_one k m b c e h = rw (e, pred_ℤ-*ℤ k (b +ℤ c), pred_ℤ-*ℤ k b, pre
 pub mul_add : (a b c : ℤ) → a *ℤ (b +ℤ c) ≡ a *ℤ b +ℤ a *ℤ c
 mul_add a b c =
     ℤ_ind (λ (k : ℤ). k *ℤ (b +ℤ c) ≡ k *ℤ b +ℤ k *ℤ c)
-        (rw (zero-*ℤ (b +ℤ c), zero-*ℤ b, zero-*ℤ c) refl)
-        (λ n h. up_one (pos n) (pos n +ℤ pos 1) b c (+ℤ_one (pos n)) h)
-        (λ n h. down_one (neg_ℤ (pos n)) (neg_ℤ (pos n) +ℤ neg_ℤ (pos 1)) b c (-ℤ_one (neg_ℤ (pos n))) h)
-        a
+    (rw (zero-*ℤ (b +ℤ c), zero-*ℤ b, zero-*ℤ c) refl)
+    (λ n h. up_one (pos n) (pos n +ℤ pos 1) b c (+ℤ_one (pos n)) h)
+    (λ n h. down_one (neg_ℤ (pos n)) (neg_ℤ (pos n) +ℤ neg_ℤ (pos 1)) b c (-ℤ_one (neg_ℤ (pos n))) h)
+    a
 
 neg_alone : (p q : ℤ) → p +ℤ q ≡ pos 0 → q ≡ neg_ℤ p
 neg_alone p q h = omega (arith, ints)
@@ -37,9 +37,9 @@ mul_neg a c = neg_alone (a *ℤ c) (a *ℤ neg_ℤ c) (sym (mul_add a c (neg_ℤ
 pub mul_differences : (a b c d : ℤ) → (a -ℤ b) *ℤ (c -ℤ d) ≡ (a *ℤ c -ℤ a *ℤ d) -ℤ (b *ℤ c -ℤ b *ℤ d)
 mul_differences a b c d =
     let left : (x : ℤ) → (a -ℤ b) *ℤ x ≡ a *ℤ x -ℤ b *ℤ x =
-        λ x. *ℤ_comm (a -ℤ b) x ∙ mul_add x a (neg_ℤ b) ∙ ap (λ y. x *ℤ a +ℤ y) (mul_neg x b) ∙ ap (λ y. y -ℤ x *ℤ b) (*ℤ_comm x a) ∙ ap (λ y. a *ℤ x -ℤ y) (*ℤ_comm x b) in
+    λ x. *ℤ_comm (a -ℤ b) x ∙ mul_add x a (neg_ℤ b) ∙ ap (λ y. x *ℤ a +ℤ y) (mul_neg x b) ∙ ap (λ y. y -ℤ x *ℤ b) (*ℤ_comm x a) ∙ ap (λ y. a *ℤ x -ℤ y) (*ℤ_comm x b) in
     let right : (x : ℤ) → x *ℤ (c -ℤ d) ≡ x *ℤ c -ℤ x *ℤ d =
-        λ x. mul_add x c (neg_ℤ d) ∙ ap (λ y. x *ℤ c +ℤ y) (mul_neg x d) in
+    λ x. mul_add x c (neg_ℤ d) ∙ ap (λ y. x *ℤ c +ℤ y) (mul_neg x d) in
     left (c -ℤ d) ∙ ap (λ y. y -ℤ b *ℤ (c -ℤ d)) (right a) ∙ ap (λ y. (a *ℤ c -ℤ a *ℤ d) -ℤ y) (right b)
 
 -- the determinant of two differences
@@ -71,10 +71,10 @@ down_product k m b c e h = rw (e, pred_ℤ-*ℤ k b, pred_ℤ-*ℤ k (b *ℤ c))
 pub mul_assoc : (a b c : ℤ) → (a *ℤ b) *ℤ c ≡ a *ℤ (b *ℤ c)
 mul_assoc a b c =
     ℤ_ind (λ (k : ℤ). (k *ℤ b) *ℤ c ≡ k *ℤ (b *ℤ c))
-        (rw (zero-*ℤ b, zero-*ℤ c, zero-*ℤ (b *ℤ c)) refl)
-        (λ n h. up_product (pos n) (pos n +ℤ pos 1) b c (+ℤ_one (pos n)) h)
-        (λ n h. down_product (neg_ℤ (pos n)) (neg_ℤ (pos n) +ℤ neg_ℤ (pos 1)) b c (-ℤ_one (neg_ℤ (pos n))) h)
-        a
+    (rw (zero-*ℤ b, zero-*ℤ c, zero-*ℤ (b *ℤ c)) refl)
+    (λ n h. up_product (pos n) (pos n +ℤ pos 1) b c (+ℤ_one (pos n)) h)
+    (λ n h. down_product (neg_ℤ (pos n)) (neg_ℤ (pos n) +ℤ neg_ℤ (pos 1)) b c (-ℤ_one (neg_ℤ (pos n))) h)
+    a
 
 -- a product is 0 only where a factor is
 pub zero_factor : (a b : ℤ) → a *ℤ b ≡ pos 0 → (a ≡ pos 0) ⊎ (b ≡ pos 0)
@@ -121,5 +121,6 @@ parallel dx dy ux uy vx vy d hu hv =
     let eu = equal_of_zero (dx *ℤ uy) (dy *ℤ ux) hu in
     let ev = equal_of_zero (dx *ℤ vy) (dy *ℤ vx) hv in
     elim (zero_factor dx _ (scaled_across dx dy ux uy vx vy eu ev)) [
-      inl x ↦ elim (zero_factor dy _ (scaled_upward dx dy ux uy vx vy eu ev)) [ inl y ↦ absurd (d (x, y)) | inr e ↦ e ]
-    | inr e ↦ e ]
+      | inl x ↦ elim (zero_factor dy _ (scaled_upward dx dy ux uy vx vy eu ev)) [ inl y ↦ absurd (d (x, y)) | inr e ↦ e ]
+      | inr e ↦ e
+    ]

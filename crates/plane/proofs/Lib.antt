@@ -4,3 +4,5 @@ pub mod Line
 pub mod Signs
 pub mod Area
 pub mod Along
+pub mod Outermost
+pub mod Quadruple

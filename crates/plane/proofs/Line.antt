@@ -1,5 +1,5 @@
 -- Points that lie in line with two different points lie in line with each other.
-use Rattle.std.proofs.Common.{◌≡◌, ◌≢◌, ◌<◌, ◌≤◌, ℕ, List, length, ℤ, pos, ◌+ℤ◌, ◌-ℤ◌, ◌*ℤ◌, arith, sym, ◌∙◌, ap}
+use Rattle.std.proofs.Common.{◌≡◌, ◌≢◌, ◌<◌, ◌≤◌, ℕ, List, length, ℤ, pos, ◌-ℤ◌, ◌*ℤ◌, arith, ◌∙◌, ap}
 use Rattle.std.proofs.lemmas.Int.{ints}
 use Rattle.plane.specs.declared.coordinates.Point.{Point}
 use Rattle.plane.specs.Geometry.{point, area, orientation}
@@ -20,9 +20,9 @@ pub collinear : (a b p q r : Point) → a ≢ b → area a b p ≡ pos 0 → are
 unfolding area
 collinear a b p q r apart hp hq hr =
     parallel (b.x -ℤ a.x) (b.y -ℤ a.y) (q.x -ℤ p.x) (q.y -ℤ p.y) (r.x -ℤ p.x) (r.y -ℤ p.y)
-        (λ d. apart (same_point a b (equal_ends a.x b.x d.0) (equal_ends a.y b.y d.1)))
-        (between_steps (b.x -ℤ a.x) (b.y -ℤ a.y) a.x a.y p.x p.y q.x q.y hp hq)
-        (between_steps (b.x -ℤ a.x) (b.y -ℤ a.y) a.x a.y p.x p.y r.x r.y hp hr)
+    (λ d. apart (same_point a b (equal_ends a.x b.x d.0) (equal_ends a.y b.y d.1)))
+    (between_steps (b.x -ℤ a.x) (b.y -ℤ a.y) a.x a.y p.x p.y q.x q.y hp hq)
+    (between_steps (b.x -ℤ a.x) (b.y -ℤ a.y) a.x a.y p.x p.y r.x r.y hp hr)
 
 -- where every point is in line with the first two, all are in line
 pub on_one_line : (S : List Point) → 2 ≤ length S → AreApart S → ((k : ℕ) → k < length S → orientation S 0 1 k ≡ pos 0) → AreOnOneLine S

@@ -1,5 +1,5 @@
 -- Which lists of points are accepted, and the first fault of those that aren't. (This project's own limits.)
-use Rattle.std.specs.Prelude.{◌≡◌, ◌≢◌, ℕ, ◌<◌, ◌≤◌, List, length, ℤ, pos, unsigned_abs}
+use Rattle.std.specs.Prelude.{◌≡◌, ◌≢◌, ℕ, ◌<◌, ◌≤◌, List, length, pos, unsigned_abs}
 use Rattle.plane.specs.declared.coordinates.Point.{Point}
 use Rattle.plane.specs.declared.coordinates.TheConstants.{COORDINATE_LIMIT, FEWEST_POINTS, MOST_POINTS}
 use Rattle.plane.specs.declared.coordinates.BadPoints.{BadPoints}

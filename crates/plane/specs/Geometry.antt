@@ -28,17 +28,22 @@ IsTurn Straight z = z ≡ pos 0
 IsTurn Right z = z <ℤ pos 0
 
 -- p is strictly between q and r: in line with them, and they lie on its two sides
+abbrev pub LiesBetween : (p q r : Point) → Type 0
+LiesBetween p q r = (area q p r ≡ pos 0) × (scalar p q r <ℤ pos 0)
+
 abbrev pub IsBetween : List Point → (p q r : ℕ) → Type 0
-IsBetween S p q r = (orientation S q p r ≡ pos 0) × (scalar (point S p) (point S q) (point S r) <ℤ pos 0)
+IsBetween S p q r = LiesBetween (point S p) (point S q) (point S r)
 
 -- two numbers have opposite signs, neither being 0
 abbrev pub AreOpposite : (y z : ℤ) → Type 0
 AreOpposite y z = ((y <ℤ pos 0) × (pos 0 <ℤ z)) ⊎ ((pos 0 <ℤ y) × (z <ℤ pos 0))
 
 -- the segments a-b and c-d cross: each has its ends strictly on the two sides of the other's line
+abbrev pub DoCross : (a b c d : Point) → Type 0
+DoCross a b c d = AreOpposite (area a b c) (area a b d) × AreOpposite (area c d a) (area c d b)
+
 abbrev pub AreCrossing : List Point → (a b c d : ℕ) → Type 0
-AreCrossing S a b c d =
-  AreOpposite (orientation S a b c) (orientation S a b d) × AreOpposite (orientation S c d a) (orientation S c d b)
+AreCrossing S a b c d = DoCross (point S a) (point S b) (point S c) (point S d)
 
 -- no point is strictly between i and j
 abbrev pub IsClear : List Point → (i j : ℕ) → Type 0

@@ -2,3 +2,5 @@ pub mod First
 pub mod Geometry
 pub mod Accepted
 pub mod Making
+pub mod Hull
+pub mod Ranges

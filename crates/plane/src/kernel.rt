@@ -1,7 +1,8 @@
 // The numbers that the tests are made of, on coordinates. Nothing else computes with coordinates.
-ghost use Rattle.std.specs.Prelude.{◌≡◌, ◌*◌, ◌≤◌, ◌↔◌, ◌-ℤ◌, ◌*ℤ◌, unsigned_abs, IsTrue};
-ghost use Rattle.plane.specs.Geometry.{area, scalar, IsTurn, AreOpposite};
+ghost use Rattle.std.specs.Prelude.{◌≡◌, ◌*◌, ◌≤◌, ◌↔◌, ◌-ℤ◌, ◌*ℤ◌, ◌⊎◌, unsigned_abs, IsTrue, IsFalse};
+ghost use Rattle.plane.specs.Geometry.{area, scalar, IsTurn, AreOpposite, LiesBetween, DoCross};
 ghost use Rattle.plane.specs.Accepted.{IsNear};
+ghost use Rattle.plane.specs.Ranges.{IsInRange, AreBelow};
 
 use crate::coordinates::{COORDINATE_LIMIT, Point, Turn};
 
@@ -67,4 +68,80 @@ pub fn are_opposite(y: i128, z: i128) -> bool
     ensures { IsTrue result ↔ AreOpposite y z }
 {
     (y < 0 && z > 0) || (y > 0 && z < 0)
+}
+
+/// Whether a point lies strictly between two others. Comparisons settle most cases without an area.
+pub fn lies_between(p: Point, q: Point, r: Point) -> bool
+    requires near_p { IsNear p }
+    requires near_q { IsNear q }
+    requires near_r { IsNear r }
+    ensures { IsTrue result ↔ LiesBetween p q r }
+{
+    could_lie_between(p, q, r) && is_found_between(p, q, r)
+}
+
+fn is_found_between(p: Point, q: Point, r: Point) -> bool
+    requires near_p { IsNear p }
+    requires near_q { IsNear q }
+    requires near_r { IsNear r }
+    ensures { IsTrue result ↔ LiesBetween p q r }
+{
+    area_of(q, p, r) == 0 && scalar_of(p, q, r) < 0
+}
+
+// Whether both coordinates of a point are in the ranges of the other two.
+fn could_lie_between(p: Point, q: Point, r: Point) -> bool
+    ensures { LiesBetween p q r → IsTrue result }
+{
+    is_in_range(p.x, q.x, r.x) && is_in_range(p.y, q.y, r.y)
+}
+
+// Whether a number is between two others, or equals one.
+fn is_in_range(a: i64, b: i64, c: i64) -> bool
+    ensures { IsTrue result ↔ IsInRange a b c }
+{
+    (b <= a && a <= c) || (c <= a && a <= b)
+}
+
+/// Whether the segments from `a` to `b` and from `c` to `d` cross. Comparisons settle most cases without an area.
+pub fn do_cross(a: Point, b: Point, c: Point, d: Point) -> bool
+    requires near_a { IsNear a }
+    requires near_b { IsNear b }
+    requires near_c { IsNear c }
+    requires near_d { IsNear d }
+    ensures { IsTrue result ↔ DoCross a b c d }
+{
+    could_cross(a, b, c, d) && parts(a, b, c, d) && parts(c, d, a, b)
+}
+
+// Whether the line from p to q has r and s strictly on its two sides.
+fn parts(p: Point, q: Point, r: Point, s: Point) -> bool
+    requires near_p { IsNear p }
+    requires near_q { IsNear q }
+    requires near_r { IsNear r }
+    requires near_s { IsNear s }
+    ensures { IsTrue result ↔ AreOpposite (area p q r) (area p q s) }
+{
+    are_opposite(area_of(p, q, r), area_of(p, q, s))
+}
+
+// Whether the ranges of the coordinates of two segments meet.
+fn could_cross(a: Point, b: Point, c: Point, d: Point) -> bool
+    ensures { DoCross a b c d → IsTrue result }
+{
+    ranges_meet(a.x, b.x, c.x, d.x) && ranges_meet(a.y, b.y, c.y, d.y)
+}
+
+// Whether no two of the four numbers are below the other two.
+fn ranges_meet(a: i64, b: i64, c: i64, d: i64) -> bool
+    ensures { IsFalse result → AreBelow a b c d ⊎ AreBelow c d a b }
+{
+    !are_below(a, b, c, d) && !are_below(c, d, a, b)
+}
+
+// Whether both first numbers are below both last ones.
+fn are_below(a: i64, b: i64, c: i64, d: i64) -> bool
+    ensures { IsTrue result → AreBelow a b c d }
+{
+    a < c && a < d && b < c && b < d
 }

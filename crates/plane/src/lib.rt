@@ -4,6 +4,7 @@
 
 mod accepted;
 mod coordinates;
+mod hull;
 mod kernel;
 mod making;
 mod predicates;
@@ -12,3 +13,6 @@ mod segment;
 pub use accepted::Points;
 pub use coordinates::{BadPoints, COORDINATE_LIMIT, FEWEST_POINTS, MOST_POINTS, Point, Turn};
 pub use segment::{Pair, PairList};
+
+#[cfg(test)]
+mod tests;

@@ -5,7 +5,7 @@ ghost use Rattle.plane.specs.Geometry.{orientation, IsTurn, IsBetween, AreCrossi
 
 use crate::accepted::Points;
 use crate::coordinates::Turn;
-use crate::kernel::{are_opposite, area_of, scalar_of, turn_of};
+use crate::kernel::{area_of, do_cross, lies_between, turn_of};
 use crate::segment::Pair;
 
 impl Points {
@@ -35,8 +35,7 @@ impl Points {
         requires r_in { r < length self.now }
         ensures { IsTrue result ↔ IsBetween self.now p q r }
     {
-        let (p, q, r) = (self.at(p), self.at(q), self.at(r));
-        area_of(q, p, r) == 0 && scalar_of(p, q, r) < 0
+        lies_between(self.at(p), self.at(q), self.at(r))
     }
 
     /// Whether two segments cross: each has its ends strictly on the two sides of the other's line. (Textbook.)
@@ -45,16 +44,12 @@ impl Points {
         requires f_in { f.hi < length self.now }
         ensures { IsTrue result ↔ AreCrossing self.now e.lo e.hi f.lo f.hi }
     {
-        self.has_on_both_sides(e, f) && self.has_on_both_sides(f, e)
-    }
-
-    // Whether the ends of the second segment lie strictly on the two sides of the first one's line.
-    fn has_on_both_sides(&self, e: Pair, f: Pair) -> bool
-        requires e_in { e.hi < length self.now }
-        requires f_in { f.hi < length self.now }
-        ensures { IsTrue result ↔ AreOpposite (orientation self.now e.lo e.hi f.lo) (orientation self.now e.lo e.hi f.hi) }
-    {
-        are_opposite(self.area(e.lo(), e.hi(), f.lo()), self.area(e.lo(), e.hi(), f.hi()))
+        do_cross(
+            self.at(e.lo()),
+            self.at(e.hi()),
+            self.at(f.lo()),
+            self.at(f.hi()),
+        )
     }
 
     /// Whether `r` is in the need of `p` for `q`: strictly left of the line from `p` to `q`, or with `p` strictly between

@@ -1,0 +1,140 @@
+-- Pairs at positions of a list, and the first violations among them.
+use Rattle.std.proofs.Common.{◌≡◌, ◌<◌, ⊎_elim, ℕ, min, max, MatchBool, Bool, true, false, not, List, length, slice_index_or, sym, ◌∙◌, subst, ap, refl, arith, ℤ, pos, ◌-ℤ◌, ◌*ℤ◌, ◌↔◌}
+use Rattle.std.proofs.lemmas.Bool.{false≢true, cases_order}
+use Rattle.std.proofs.lemmas.List.{get_or_default}
+use Rattle.std.proofs.lemmas.Int.{ints}
+use Rattle.std.proofs.Math.IntN.{zero-*ℤ, *ℤ_comm}
+use Rattle.plane.specs.declared.coordinates.Point.{Point}
+use Rattle.plane.specs.declared.segment.Pair.{Pair, ordered-type}
+use Rattle.std.proofs.Math.Bridge.{le_prop}
+use Rattle.plane.specs.First.{IsLeast, IsFirstPair}
+use Rattle.plane.specs.Geometry.{area, point, IsBetween, IsClear, AreCrossing, AreOpposite, IsBorderPair}
+use Rattle.partition_defs.specs.Partition.{ArePlane, Joins, HasBorderFrom}
+use Rattle.partition_defs.specs.Triangulation.{AreDistinct}
+use Rattle.cp_judge.specs.Violation.{StandsAt, IsRepeatedAt, IsNotClear, AreCrossingAt, IsCrossing, IsMissing, IsMissingBorder, IsLeastMissingFrom}
+
+pub refused : (b : Bool) (P : Type 0) → b ≡ false → (P → b ≡ true) → ¬ P
+refused b P e f p = false≢true (sym e ∙ f p)
+
+pub stands_same : (K : List Pair) (k : ℕ) (e f : Pair) → StandsAt K k e → StandsAt K k f → e ≡ f
+stands_same K k e f g h = sym g.1 ∙ get_or_default K k e f g.0 ∙ h.1
+
+pub stands : (K : List Pair) (k : ℕ) (d : Pair) → k < length K → StandsAt K k (slice_index_or K k d)
+stands K k d l = (l, get_or_default K k (slice_index_or K k d) d l)
+
+pub distinct_from : (K : List Pair) → ((k : ℕ) → k < length K → ¬ IsRepeatedAt K k) → AreDistinct K
+distinct_from K none i j d l m e =
+    let li : i < length K = omega arith in
+    none j m (slice_index_or K j d, i, l, (li, get_or_default K i (slice_index_or K j d) d li ∙ e), stands K j d m)
+
+pub not_clear_found : (S : List Point) (K : List Pair) (k : ℕ) (e : Pair) (p : ℕ) → StandsAt K k e
+    → IsLeast (λ q. IsBetween S q e.lo e.hi) (length S) p
+    → ((j : ℕ) (f : Pair) → j < k → slice_index_or K j f ≡ f → IsClear S f.lo f.hi) → IsNotClear S K e p
+not_clear_found S K k e p st least before =
+    (k, st, record { within = st.0; holds = (e, p, st, least.within, least.holds); before = λ j m u. before j u.0 m u.2.1 u.1 u.3 u.4 }, least)
+
+pub crossing_here : (S : List Point) (K : List Pair) (a b : ℕ) (e f : Pair) → StandsAt K a e → StandsAt K b f
+    → AreCrossingAt S K a b → AreCrossing S e.lo e.hi f.lo f.hi
+crossing_here S K a b e f se sf h =
+    let P : Pair → Type 0 = λ x. AreCrossing S x.lo x.hi f.lo f.hi in
+    let Q : Pair → Type 0 = λ y. AreCrossing S h.0.lo h.0.hi y.lo y.hi in
+    subst P (stands_same K a h.0 e h.2 se) (subst Q (stands_same K b h.1 f h.3 sf) h.4)
+
+none_times : (a b : ℤ) → a *ℤ (b -ℤ b) ≡ pos 0
+none_times a b =
+    let e : b -ℤ b ≡ pos 0 = omega (arith, ints) in
+    ap (λ x. a *ℤ x) e ∙ *ℤ_comm a (pos 0) ∙ zero-*ℤ a
+
+none_less : (a b : ℤ) → a ≡ pos 0 → b ≡ pos 0 → a -ℤ b ≡ pos 0
+none_less a b h k = omega (arith, ints)
+
+back_to_first : (p q : Point) → area p q p ≡ pos 0
+unfolding area
+back_to_first p q = none_less _ _ (none_times (q.x -ℤ p.x) p.y) (none_times (q.y -ℤ p.y) p.x)
+
+none_opposite : (y z : ℤ) → y ≡ pos 0 → ¬ AreOpposite y z
+none_opposite y z e h = ⊎_elim (λ u. omega (arith, ints, u.0)) (λ u. omega (arith, ints, u.0)) h
+
+pub crosses_itself : (S : List Point) (a b : ℕ) → ¬ AreCrossing S a b a b
+crosses_itself S a b h = none_opposite _ _ (back_to_first (point S a) (point S b)) h.0
+
+same_position : (S : List Point) (K : List Pair) (k m : ℕ) (e f : Pair) → k ≡ m → StandsAt K k e → StandsAt K m f
+    → ¬ AreCrossing S e.lo e.hi f.lo f.hi
+same_position S K k m e f s he hf h =
+    let P : ℕ → Type 0 = λ x. StandsAt K x e in
+    let same : e ≡ f = stands_same K m e f (subst P s he) hf in
+    let Q : Pair → Type 0 = λ x. AreCrossing S e.lo e.hi x.lo x.hi in
+    crosses_itself S e.lo e.hi (subst Q (sym same) h)
+
+pub plane_from : (S : List Point) (K : List Pair) → ((k m : ℕ) → k < m → m < length K → ¬ AreCrossingAt S K k m) → ArePlane S K
+plane_from S K none e f he hf h =
+    ⊎_elim (λ s. same_position S K he.0 hf.0 e f s (he.1, he.2) (hf.1, hf.2) h)
+    (λ u. ⊎_elim (λ l. none he.0 hf.0 l hf.1 (e, f, (he.1, he.2), (hf.1, hf.2), h))
+    (λ l. none hf.0 he.0 l he.1 (f, e, (hf.1, hf.2), (he.1, he.2), (h.1, h.0))) u)
+    (cases_order he.0 hf.0)
+
+pub crossing_found : (S : List Point) (K : List Pair) (a b : ℕ) (e f : Pair) → StandsAt K a e → StandsAt K b f
+    → a < b → AreCrossingAt S K a b
+    → ((k m : ℕ) → k < a → k < m → m < length K → ¬ AreCrossingAt S K k m)
+    → ((m : ℕ) → a < m → m < b → ¬ AreCrossingAt S K a m) → IsCrossing S K e f
+crossing_found S K a b e f se sf l h before after = (
+  a,
+  b,
+  se,
+  sf,
+  record {
+    ordered = l;
+    within = sf.0;
+    holds = h;
+    before = λ k m o n c. ⊎_elim (λ lk. before k m lk o n)
+        (λ u. let P : ℕ → Type 0 = λ x. ¬ AreCrossingAt S K x m in
+        let Q : ℕ → Type 0 = λ x. x < m in
+        subst P (sym u.0) (after m (subst Q u.0 o) u.1)) c;
+  },
+)
+
+ordered_once : (a b : ℕ) → IsProp (ordered-type a b)
+ordered_once a b = le_prop
+
+made : (a b : ℕ) → ordered-type a b → Pair
+made a b o = record { lo = a; hi = b; ordered = o }
+
+pub pair_same : (e f : Pair) → e.lo ≡ f.lo → e.hi ≡ f.hi → e ≡ f
+unfolding made
+pair_same e f h k =
+    let R : ℕ → Type 0 = λ y. (p : ordered-type e.lo y) → made e.lo e.hi e.ordered ≡ made e.lo y p in
+    let Q : ℕ → Type 0 = λ x. (p : ordered-type x f.hi) → made e.lo e.hi e.ordered ≡ made x f.hi p in
+    subst Q h (subst R k (λ p. ap (λ (z : ordered-type e.lo e.hi). made e.lo e.hi z) (ordered_once e.lo e.hi e.ordered p))) f.ordered
+
+-- what a refusing test and a search that refuses it mean
+pub decided_border : (b j : Bool) (B M : Type 0) → (b ≡ true ↔ B) → (j ≡ true ↔ M) → b ≡ true → MatchBool (not j) (B × ¬ M) (B → M)
+decided_border b true B M hb hj e = λ _. hj.0 refl
+decided_border b false B M hb hj e = (hb.0 e, λ m. false≢true (hj.1 m))
+
+pub matched_true : (b : Bool) (P Q : Type 0) → MatchBool b P Q → b ≡ true → P
+matched_true true P Q h e = h
+matched_true false P Q h e = absurd (false≢true e)
+
+pub matched_false : (b : Bool) (P Q : Type 0) → MatchBool b P Q → b ≡ false → Q
+matched_false true P Q h e = absurd (false≢true (sym e))
+matched_false false P Q h e = h
+
+pub not_missing : (S : List Point) (K : List Pair) (i j : ℕ) → (IsBorderPair S i j → Joins K i j) → ¬ IsMissing S K i j
+not_missing S K i j f m = m.1 (f m.0)
+
+pub missing_found : (S : List Point) (K : List Pair) (i j : ℕ) (e : Pair) → e.lo ≡ min i j → e.hi ≡ max i j
+    → IsLeastMissingFrom S K i j → ((k : ℕ) → k < i → HasBorderFrom S K k) → IsMissingBorder S K e
+missing_found S K i j e lo hi least before =
+    let lo' : i ≡ e.lo = omega (arith, least.0) in
+    let hi' : j ≡ e.hi = omega (arith, least.0) in
+    let P : ℕ → Type 0 = λ x. IsFirstPair (IsMissing S K) (length S) x e.hi in
+    let Q : ℕ → Type 0 = λ y. IsFirstPair (IsMissing S K) (length S) i y in
+    subst P lo' (subst Q hi' (record {
+      ordered = least.0;
+      within = least.1;
+      holds = least.2;
+      before = λ k m o n c. ⊎_elim (λ l. not_missing S K k m (before k l m o n))
+          (λ u. let R : ℕ → Type 0 = λ x. ¬ IsMissing S K x m in
+          let T : ℕ → Type 0 = λ x. x < m in
+          subst R (sym u.0) (least.3 m (subst T u.0 o) u.1)) c;
+    }))

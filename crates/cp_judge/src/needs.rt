@@ -1,0 +1,118 @@
+// Needs that aren't met. One walk over the list marks the points for which the needs of a point are met.
+ghost use Rattle.std.specs.Prelude.{◌≡◌, ◌≢◌, ◌<◌, ◌≤◌, ◌⊎◌, ◌↔◌, length, IsTrue, MatchOption, false};
+ghost use Rattle.plane.specs.First.{IsLeast, IsLeastOrNone};
+ghost use Rattle.plane.specs.Geometry.{IsInner};
+ghost use Rattle.partition_defs.specs.Partition.{AreWithin, MeetsNeedsAt, MeetsNeeds};
+ghost use Rattle.cp_judge.specs.Violation.{IsOtherEnd, IsSeen, IsMetBy, IsMetBefore, mark, AddsMarks, IsUnmetAt, IsUnmet};
+
+use plane::{MOST_POINTS, Pair, Points};
+
+// The other end of a segment at this point, or none where it isn't at it.
+fn other_end(e: Pair, p: u32) -> Option<u32>
+    ensures { IsOtherEnd e p result }
+{
+    if e.lo() == p {
+        Some(e.hi())
+    } else if e.hi() == p {
+        Some(e.lo())
+    } else {
+        None
+    }
+}
+
+// Whether r is in the need of p for another point q, or a mark says so already.
+fn is_seen(points: &Points, p: u32, q: u32, r: u32, marked: bool) -> bool
+    requires p_in { p < length points.now }
+    requires q_in { q < length points.now }
+    requires r_in { r < length points.now }
+    ensures { IsTrue result ↔ (IsTrue marked ⊎ IsSeen points.now p q r) }
+{
+    marked || (q != p && points.in_need(p, q, r))
+}
+
+// Marks the points q with r in the need of p for q.
+fn mark_seen(points: &Points, p: u32, r: u32, marks: &mut [bool])
+    requires p_in { p < length points.now }
+    requires r_in { r < length points.now }
+    requires room { length points.now ≤ length marks.old }
+    ensures { AddsMarks (λ q. IsSeen points.now p q r) (length points.now) marks.old marks.new }
+{
+    for q in 0..points.len() {
+        let k = q as usize;
+        marks[k] = is_seen(points, p, q, r, marks[k]);
+    }
+}
+
+// Marks the points for which this segment meets the need of p.
+fn mark_by(points: &Points, p: u32, e: Pair, marks: &mut [bool])
+    requires p_in { p < length points.now }
+    requires e_in { e.hi < length points.now }
+    requires room { length points.now ≤ length marks.old }
+    ensures { AddsMarks (IsMetBy points.now e p) (length points.now) marks.old marks.new }
+{
+    if let Some(r) = other_end(e, p) {
+        mark_seen(points, p, r, marks);
+    }
+}
+
+// Marks the points for which some segment of the list meets the need of p.
+fn mark_met(points: &Points, list: &[Pair], p: u32, marks: &mut [bool])
+    requires within { AreWithin points.now list.now }
+    requires p_in { p < length points.now }
+    requires room { length points.now ≤ length marks.old }
+    ensures { AddsMarks (IsMetBefore points.now list.now (length list.now) p) (length points.now) marks.old marks.new }
+{
+    for e in list {
+        mark_by(points, p, *e, marks);
+    }
+}
+
+// The least index below this count, other than p, that has no mark, or none.
+fn first_unmarked(marks: &[bool], count: u32, p: u32) -> Option<u32>
+    requires { count ≤ length marks.now }
+    ensures { IsLeastOrNone (λ q. (q ≢ p) × (mark marks.now q ≡ false)) count result }
+{
+    for q in 0..count {
+        if q != p && !marks[q as usize] {
+            return Some(q);
+        }
+    }
+    None
+}
+
+// The least point for which the need of p isn't met, or none.
+fn first_unmet_at(points: &Points, list: &[Pair], p: u32) -> Option<u32>
+    requires within { AreWithin points.now list.now }
+    requires p_in { p < length points.now }
+    ensures { MatchOption result (MeetsNeedsAt points.now list.now p) (IsLeast (IsUnmetAt points.now list.now p) (length points.now)) }
+{
+    let count = points.len();
+    let mut marks = [false; MOST_POINTS];
+    mark_met(points, list, p, &mut marks);
+    first_unmarked(&marks, count, p)
+}
+
+// The same for an inner point, and none for another.
+fn first_unmet_of(points: &Points, list: &[Pair], p: u32) -> Option<u32>
+    requires within { AreWithin points.now list.now }
+    requires p_in { p < length points.now }
+    ensures { MatchOption result (IsInner points.now p → MeetsNeedsAt points.now list.now p) (λ q. IsInner points.now p × IsLeast (IsUnmetAt points.now list.now p) (length points.now) q) }
+{
+    if !points.is_inner(p) {
+        return None;
+    }
+    first_unmet_at(points, list, p)
+}
+
+/// The least inner point with a need that isn't met, and the least point for which it isn't, or none.
+pub fn first_unmet(points: &Points, list: &[Pair]) -> Option<(u32, u32)>
+    requires { AreWithin points.now list.now }
+    ensures { MatchOption result (MeetsNeeds points.now list.now) (λ v. IsUnmet points.now list.now v.0 v.1) }
+{
+    for p in 0..points.len() {
+        if let Some(q) = first_unmet_of(points, list, p) {
+            return Some((p, q));
+        }
+    }
+    None
+}

@@ -1,0 +1,207 @@
+use crate::{Judgement, judge};
+use partition_defs::{are_within, is_convex_partition_plain};
+use plane::{Pair, Point, Points};
+use std::alloc::Global;
+use std::process::Abort;
+use std::test::Fail;
+
+fn points_of(rt: &impl Abort, alloc: Global, list: &[(i64, i64)]) -> Result<Points, Fail> {
+    let mut points = Vec::new(alloc);
+    for (x, y) in list {
+        points.push(Point { x: *x, y: *y })?;
+    }
+    assert!(rt; points.len() < 5001);
+    Ok(Points::make(points)?)
+}
+
+fn pairs_of(rt: &impl Abort, alloc: Global, list: &[(u32, u32)]) -> Result<Vec<Pair>, Fail> {
+    let mut pairs = Vec::new(alloc);
+    for (i, j) in list {
+        assert!(rt; *i != *j);
+        pairs.push(Pair::of(*i, *j))?;
+    }
+    Ok(pairs)
+}
+
+// The judgement on a list, or none where an end is no point.
+fn judged(points: &Points, list: &[Pair]) -> Option<Judgement> {
+    if list.len() > 1000 || !are_within(points, list) {
+        return None;
+    }
+    Some(judge(points, list))
+}
+
+// The corners of a square, then its centre where it is asked for.
+const SQUARE: [(i64, i64); 4] = [(0, 0), (0, 4), (4, 0), (4, 4)];
+
+const CENTRED: [(i64, i64); 5] = [(0, 0), (0, 4), (4, 0), (4, 4), (2, 2)];
+// A triangle with a point inside its lower side, and one inside the triangle.
+const SIDED: [(i64, i64); 5] = [(0, 0), (2, 0), (4, 0), (0, 4), (1, 1)];
+
+#[test]
+fn the_first_violation_is_shown(rt: HostRuntime) -> Result<(), Fail> {
+    // Each list of points and of pairs, and its judgement by hand from the definition.
+    let cases: [(&[(i64, i64)], &[(u32, u32)], Judgement); 17] = [
+        (
+            &SQUARE,
+            &[(0, 1), (2, 0), (1, 3), (2, 3)],
+            Judgement::Convex(4),
+        ),
+        (
+            &SQUARE,
+            &[(0, 1), (2, 0), (1, 3), (2, 3), (0, 3)],
+            Judgement::Convex(5),
+        ),
+        (
+            &CENTRED,
+            &[(0, 1), (0, 2), (1, 3), (2, 3), (0, 4)],
+            Judgement::Unmet(4, 0),
+        ),
+        // A straight angle at the centre is open on neither side once both ways meet it.
+        (
+            &CENTRED,
+            &[(0, 1), (0, 2), (1, 3), (2, 3), (0, 4), (3, 4)],
+            Judgement::Convex(6),
+        ),
+        (
+            &CENTRED,
+            &[(0, 1), (0, 2), (1, 3), (2, 3), (0, 4), (1, 4)],
+            Judgement::Unmet(4, 0),
+        ),
+        (
+            &CENTRED,
+            &[(0, 1), (0, 2), (1, 3), (2, 3), (1, 4), (2, 4)],
+            Judgement::Convex(6),
+        ),
+        (
+            &SQUARE,
+            &[(0, 1), (0, 2), (1, 3), (2, 3), (0, 3), (1, 2)],
+            Judgement::Crossing(Pair::of(0, 3), Pair::of(1, 2)),
+        ),
+        (
+            &CENTRED,
+            &[(0, 1), (0, 2), (1, 3), (2, 3), (0, 3)],
+            Judgement::NotClear(Pair::of(0, 3), 4),
+        ),
+        (
+            &SQUARE,
+            &[(0, 1), (0, 2), (1, 3)],
+            Judgement::MissingBorder(Pair::of(2, 3)),
+        ),
+        (
+            &SQUARE,
+            &[(2, 3), (1, 3)],
+            Judgement::MissingBorder(Pair::of(0, 1)),
+        ),
+        (&SQUARE, &[], Judgement::MissingBorder(Pair::of(0, 1))),
+        (
+            &SQUARE,
+            &[(0, 1), (0, 2), (1, 3), (2, 3), (1, 0)],
+            Judgement::Doubled(Pair::of(0, 1)),
+        ),
+        (
+            &SQUARE,
+            &[(0, 2), (0, 1), (1, 0), (2, 0)],
+            Judgement::Doubled(Pair::of(0, 1)),
+        ),
+        // The side with a point inside isn't clear, and its parts are border pairs.
+        (
+            &SIDED,
+            &[(0, 2), (0, 3), (2, 3)],
+            Judgement::NotClear(Pair::of(0, 2), 1),
+        ),
+        (
+            &SIDED,
+            &[(1, 2), (0, 3), (2, 3)],
+            Judgement::MissingBorder(Pair::of(0, 1)),
+        ),
+        (
+            &SIDED,
+            &[(0, 1), (1, 2), (0, 3), (2, 3), (0, 4), (2, 4)],
+            Judgement::Unmet(4, 2),
+        ),
+        (
+            &SIDED,
+            &[(0, 1), (1, 2), (0, 3), (2, 3), (0, 4), (2, 4), (3, 4)],
+            Judgement::Convex(7),
+        ),
+    ];
+    for (corners, list, wanted) in cases {
+        let points = points_of(&rt, rt.alloc(), corners)?;
+        let pairs = pairs_of(&rt, rt.alloc(), list)?;
+        let answer = judged(&points, pairs.as_slice());
+        assert_eq!(rt; answer, Some(wanted), "in {list:?}");
+    }
+    Ok(())
+}
+
+// The next number of a simple generator.
+fn next(state: u32) -> u32 {
+    state.wrapping_mul(1_664_525).wrapping_add(1_013_904_223)
+}
+
+// Six points of a small grid, by the seed. Many are in line.
+fn scattered(alloc: Global, seed: u32) -> Result<Vec<Point>, Fail> {
+    let mut state = seed;
+    let mut points = Vec::new(alloc);
+    for _ in 0..6 {
+        state = next(state);
+        let (x, y) = ((state >> 16) % 4, (state >> 24) % 4);
+        points.push(Point {
+            x: i64::from(x),
+            y: i64::from(y),
+        })?;
+    }
+    Ok(points)
+}
+
+// Whether a pair is clear and crosses none of the list.
+fn fits(points: &Points, list: &[Pair], e: Pair) -> bool {
+    let count = points.len();
+    if e.hi() >= count || !points.is_clear(e) {
+        return false;
+    }
+    !list.iter().any(|f| f.hi() < count && points.cross(e, *f))
+}
+
+// Segments that don't cross, as many as the seed lets in.
+fn drawn(points: &Points, alloc: Global, seed: u32, share: u32) -> Result<Vec<Pair>, Fail> {
+    let mut state = seed;
+    let mut pairs = Vec::new(alloc);
+    for i in 0..6u32 {
+        for j in i + 1..6 {
+            state = next(state);
+            let e = Pair::of(i, j);
+            if (state >> 20) % 8 < share && fits(points, pairs.as_slice(), e) {
+                pairs.push(e)?;
+            }
+        }
+    }
+    Ok(pairs)
+}
+
+#[test]
+fn the_plain_program_agrees(rt: HostRuntime) -> Result<(), Fail> {
+    let mut convex = 0u32;
+    let mut other = 0u32;
+    for seed in 0..60u32 {
+        let made = scattered(rt.alloc(), seed)?;
+        assert!(rt; made.len() < 5001);
+        if let Ok(points) = Points::make(made) {
+            let share = if seed % 3 == 0 { 7 } else { 8 };
+            let pairs = drawn(&points, rt.alloc(), seed.wrapping_add(99), share)?;
+            let answer = judged(&points, pairs.as_slice());
+            let plain = is_convex_partition_plain(&points, pairs.as_slice());
+            let told = matches!(answer, Some(Judgement::Convex(_)));
+            assert_eq!(rt; told, plain, "at {seed}");
+            if plain {
+                convex = convex.saturating_add(1);
+            } else {
+                other = other.saturating_add(1);
+            }
+        }
+    }
+    assert!(rt; convex > 2);
+    assert!(rt; other > 2);
+    Ok(())
+}

@@ -1,0 +1,12 @@
+//! Instances that anyone can make again from a number: points in strips at random, in a grid, or on a parabola.
+#![tactic(auto)]
+
+mod kinds;
+mod lists;
+mod making;
+
+pub use kinds::Kind;
+pub use making::generate;
+
+#[cfg(test)]
+mod tests;

@@ -1,0 +1,4 @@
+pub mod Scans
+pub mod Pieces
+pub mod Values
+pub mod Answers

@@ -1,0 +1,35 @@
+// What an instance is, and why a text is none.
+use crate::names::Name;
+use plane::{BadPoints, Points};
+
+/// An instance: its name and its accepted points, by index.
+#[derive(Drop)]
+pub struct Instance {
+    pub name: Name,
+    pub points: Points,
+}
+
+/// Why a text isn't read as an instance, in the order in which the faults are looked for (this project's own).
+#[derive(Clone, Copy, Debug, PartialEq, Eq)]
+pub enum InstanceFault {
+    /// The text has more than 64 levels, or no reading as JSON.
+    NotJson,
+    /// The reading isn't an object, or its `name` is missing or no string.
+    NoName,
+    /// The name has more than 1,000 bytes; it shows how many.
+    LongName(u32),
+    /// The `points` are missing or no array.
+    NoPoints,
+    /// The least place of an item that is no whole point, where it isn't an object with `x` and `y`.
+    BadPoint(u32),
+    /// The least place of an item that is no whole point, where its `x` or `y` gives no whole number.
+    NotWhole(u32),
+    /// The least place of an item that has an index `i` where the first item hasn't, or the reverse.
+    MixedIndex(u32),
+    /// The least place of an item whose index isn't a whole number below the count of the items, or stood before.
+    BadIndex(u32),
+    /// The fault of the points, by index.
+    Bad(BadPoints),
+    /// Memory was not found.
+    NoMemory,
+}

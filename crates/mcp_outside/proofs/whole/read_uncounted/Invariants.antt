@@ -1,0 +1,4 @@
+use Rattle.mcp_outside.proofs.whole.read_uncounted.Given as goal
+
+abbrev pub ghosts-read_from : goal.ghosts-read_from
+ghosts-read_from g a = record { name = a.blank.name; parts = a.blank.parts }

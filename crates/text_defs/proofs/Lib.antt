@@ -1,0 +1,5 @@
+pub mod Pieces
+pub mod Rewriting
+pub mod Levels
+pub mod Reading
+pub mod Examples

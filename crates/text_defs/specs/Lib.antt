@@ -1,0 +1,10 @@
+pub mod Pieces
+pub mod Numbers
+pub mod Levels
+pub mod Reading
+pub mod Whole
+pub mod Steps
+pub mod Instances
+pub mod Solutions
+pub mod Bundles
+pub mod Texts

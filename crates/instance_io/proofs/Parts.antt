@@ -47,7 +47,7 @@ error_first (Err y) next x h = h
 
 -- ---- the points
 
-listed : (ds : List Data) → list_of (items_of ds) ≡ ds
+pub listed : (ds : List Data) → list_of (items_of ds) ≡ ds
 listed [] = refl
 listed (d ∷ ds) = ap (λ es. d ∷ es) (listed ds)
 

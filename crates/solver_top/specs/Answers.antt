@@ -54,6 +54,11 @@ abbrev pub ReadsAll : (List ℕ → Verdict → List ℕ → Type 0) → List �
 ReadsAll Answers input left verdict text =
   IsTooLong input left verdict text ⊎ ((length input ≤ most_input) × (left ≡ Some []) × Answers input verdict text)
 
+-- the numbers of a command are within their limits
+abbrev pub IsInRange : Command → Type 0
+IsInRange Judge = Unit {0}
+IsInRange (Gen kind n seed) = (3 ≤ n) × (n ≤ 5000)
+
 -- what a command answers, of the bytes that the source had left, with what it has left then
 abbrev pub IsAnswerOf : Command → List ℕ → Option (List ℕ) → Verdict → List ℕ → Type 0
 IsAnswerOf Judge input left verdict text = ReadsAll IsJudged input left verdict text

@@ -20,6 +20,7 @@ pub struct Bundle {
 }
 
 /// The bundle of an input, or its first refusal.
+#[tactic(auto, unfolding(text_defs::specs::Bundles::parts_from))]
 pub fn read_bundle(alloc: Global, bytes: &[u8]) -> Result<Bundle, Unread>
     ensures { MatchResult result (λ bundle. HasBundle bytes.now bundle.points bundle.pairs.items) (TellsBundle bytes.now) }
 {
@@ -32,6 +33,7 @@ pub fn read_bundle(alloc: Global, bytes: &[u8]) -> Result<Bundle, Unread>
 }
 
 // The bundle of the value that an input is.
+#[tactic(auto, unfolding(text_defs::specs::Bundles::parts_from))]
 fn parts_of(alloc: Global, bytes: &[u8], value: &Value) -> Result<Bundle, Unread>
     requires { json_reading bytes.now ≡ Some (view value.now) }
     ensures { MatchResult result (λ bundle. HasBundle bytes.now bundle.points bundle.pairs.items) (TellsBundle bytes.now) }

@@ -1,10 +1,13 @@
 // The lines that are printed.
 ghost use Rattle.std.specs.Prelude.{◌≡◌, string_bytes, IfOk};
+ghost use Rattle.solver_top.specs.Bundles.{bundle_fault_text, solution_fault_text, refusal_line};
 ghost use Rattle.solver_top.specs.Lines.{usage_line, pair_text, judgement_line, points_fault_text, instance_fault_text};
 
 use cp_judge::Judgement;
+use crate::refusals::{BundleFault, Refusal};
 use instance_io::InstanceFault;
 use plane::{BadPoints, Pair};
+use solution_io::SolutionFault;
 use std::alloc::{AllocError, Global};
 
 /// The line of words that are no line of the program, with the position that it shows.
@@ -76,5 +79,47 @@ pub fn instance_fault_text(alloc: Global, fault: InstanceFault) -> Result<String
         InstanceFault::BadIndex(k) => format!(in alloc; "BadIndex {k}"),
         InstanceFault::Bad(bad) => points_fault_text(alloc, bad),
         InstanceFault::NoMemory => format!(in alloc; "NoMemory"),
+    }
+}
+
+fn bundle_fault_text(fault: BundleFault) -> &'static str
+    ensures { result.now ≡ bundle_fault_text fault }
+{
+    match fault {
+        BundleFault::NotJson => "NotJson",
+        BundleFault::NoInstance => "NoInstance",
+        BundleFault::NoSolution => "NoSolution",
+    }
+}
+
+fn solution_fault_text(alloc: Global, fault: &SolutionFault) -> Result<String, AllocError>
+    ensures { IfOk result (λ text. string_bytes text ≡ solution_fault_text fault.now) }
+{
+    match fault {
+        SolutionFault::NotJson => format!(in alloc; "NotJson"),
+        SolutionFault::NoEdges => format!(in alloc; "NoEdges"),
+        SolutionFault::TooManyEdges(c) => format!(in alloc; "TooManyEdges {c}"),
+        SolutionFault::BadEdge(k) => format!(in alloc; "BadEdge {k}"),
+        SolutionFault::NoMemory => format!(in alloc; "NoMemory"),
+    }
+}
+
+/// The line of a refusal.
+pub fn refusal_line(alloc: Global, refusal: &Refusal) -> Result<String, AllocError>
+    ensures { IfOk result (λ line. string_bytes line ≡ refusal_line refusal.now) }
+{
+    match refusal {
+        Refusal::Bundle(fault) => {
+            let text = bundle_fault_text(*fault);
+            format!(in alloc; "refused bundle {text}\n")
+        }
+        Refusal::Instance(fault) => {
+            let text = instance_fault_text(alloc, *fault)?;
+            format!(in alloc; "refused instance {text}\n")
+        }
+        Refusal::Solution(fault) => {
+            let text = solution_fault_text(alloc, fault)?;
+            format!(in alloc; "refused solution {text}\n")
+        }
     }
 }

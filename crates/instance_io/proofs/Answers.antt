@@ -1,8 +1,8 @@
 -- How the answer to a text follows from the answer to its value.
-use Rattle.std.proofs.Common.{◌≡◌, List, ℕ, Option, Some, None, Result, Ok, Err, refl, sym, ap, ◌∙◌, subst}
+use Rattle.std.proofs.Common.{◌≡◌, List, ℕ, Some, None, Result, Err, refl, sym, subst}
 use Rattle.serde_json.specs.Data.{Data}
 use Rattle.text_defs.specs.Reading.{json_reading}
-use Rattle.text_defs.specs.Instances.{instance_in, instance_from, Fault, not_json}
+use Rattle.text_defs.specs.Instances.{instance_in, instance_from, not_json}
 use Rattle.instance_io.specs.declared.instances.Instance.{Instance}
 use Rattle.instance_io.specs.declared.instances.InstanceFault.{InstanceFault}
 use Rattle.instance_io.specs.declared.instances.InstanceFault.TheVariants.{NotJson, NoName, LongName, NoPoints, BadPoint, NotWhole, MixedIndex, BadIndex, Bad, NoMemory}

@@ -1,5 +1,5 @@
 -- A reading has one fault at most.
-use Rattle.std.proofs.Common.{◌≡◌, ◌≢◌, ℕ, List, [], ◌∷◌, map, Option, Some, None, Result, Ok, Err, refl, sym, ap, ◌∙◌, subst, arith, ℤ, pos}
+use Rattle.std.proofs.Common.{◌≡◌, ◌≢◌, ℕ, List, [], ◌∷◌, map, Some, None, Result, Ok, Err, refl, sym, ap, ◌∙◌, subst, arith, ℤ, pos}
 use Rattle.plane.specs.declared.coordinates.Point.{Point}
 use Rattle.plane.specs.declared.coordinates.BadPoints.{BadPoints}
 use Rattle.plane.specs.Accepted.{IsFault}
@@ -76,9 +76,10 @@ has_named x NoMemory m h = absurd (m refl)
 pub exact_text : (reading : Reading) (f : InstanceFault) → Tells f (error reading) → IsExact reading (Err f)
 exact_text (Ok v) f h m g n = absurd (m (ap (λ x. Err x) (tells_none f h)))
 exact_text (Err x) f h m g n =
-    let same : f ≡ named x = tells_some f x (λ e. m (ap (λ y. Err y) e)) h in
-    (λ e. subst (λ y. HasFault (Err x) y) (sym (err_same e)) (told (Err x) f h)
-    , λ q. ap (λ y. Err y) (same ∙ sym (has_named x g n q)))
+    let same : f ≡ named x = tells_some f x (λ e. m (ap (λ y. Err y) e)) h in (
+      λ e. subst (λ y. HasFault (Err x) y) (sym (err_same e)) (told (Err x) f h),
+      λ q. ap (λ y. Err y) (same ∙ sym (has_named x g n q)),
+    )
 
 -- ---- points at fault
 
@@ -112,11 +113,13 @@ bad_only name points (Bad b) n h = (b, refl, subst (λ ps. IsFault ps b) (sym (s
 bad_only name points NoMemory n h = absurd (n refl)
 
 pub exact_ok : (reading : Reading) (name : List ℕ) (points : List Point) (i : Instance) → Gives reading name points → ((b : BadPoints) → IsFault points b → ⊥) → IsExact reading (Ok i)
-exact_ok reading name points i e none m g n =
-    (λ h. absurd (ok_err h)
-    , λ h. let b = bad_only name points g n (subst (λ r. HasFault r g) e h) in absurd (none b.0 b.2))
+exact_ok reading name points i e none m g n = (
+  λ h. absurd (ok_err h),
+  λ h. let b = bad_only name points g n (subst (λ r. HasFault r g) e h) in absurd (none b.0 b.2),
+)
 
 pub exact_bad : (reading : Reading) (name : List ℕ) (points : List Point) (bad : BadPoints) → Gives reading name points → IsFault points bad → ((b : BadPoints) → IsFault points b → b ≡ bad) → IsExact reading (Err (Bad bad))
-exact_bad reading name points bad e f one m g n =
-    (λ h. subst (λ y. HasFault reading y) (sym (err_same h)) (name, points, e, f)
-    , λ h. let b = bad_only name points g n (subst (λ r. HasFault r g) e h) in sym (ap (λ y. Err y) (b.1 ∙ ap Bad (one b.0 b.2))))
+exact_bad reading name points bad e f one m g n = (
+  λ h. subst (λ y. HasFault reading y) (sym (err_same h)) (name, points, e, f),
+  λ h. let b = bad_only name points g n (subst (λ r. HasFault r g) e h) in sym (ap (λ y. Err y) (b.1 ∙ ap Bad (one b.0 b.2))),
+)

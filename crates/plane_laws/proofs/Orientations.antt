@@ -26,11 +26,11 @@ area_steps p q r =
     omega (arith, ints, mul_differences q.x p.x r.y p.y, mul_differences q.y p.y r.x p.x, mul_differences q.x p.x r.y q.y, mul_differences q.y p.y r.x q.x)
 
 -- the determinant of two points
-det : (p q : Point) → ℤ
+unfoldable pub det : (p q : Point) → ℤ
 det p q = p.x *ℤ q.y -ℤ p.y *ℤ q.x
 
 -- the area by the determinants of its sides
-area_sides : (p q r : Point) → area p q r ≡ (det p q +ℤ det q r) -ℤ det p r
+pub area_sides : (p q r : Point) → area p q r ≡ (det p q +ℤ det q r) -ℤ det p r
 unfolding area det
 area_sides p q r =
     omega (arith, ints, mul_differences q.x p.x r.y p.y, mul_differences q.y p.y r.x p.x, *ℤ_comm p.x q.y, *ℤ_comm p.y q.x, *ℤ_comm p.x p.y)

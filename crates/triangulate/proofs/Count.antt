@@ -95,10 +95,12 @@ key_cases s t p q e =
     let lo : min s t ≡ min p q = ap (λ (x : Key). x.0) e in
     let hi : max s t ≡ max p q = ap (λ (x : Key). x.1) e in
     elim (cases_order s t) [
-        inl f ↦ inl (omega arith, omega arith)
+      | inl f ↦ inl (omega arith, omega arith)
       | inr u ↦ elim u [
-            inl f ↦ elim (cases_order p q) [ inl g ↦ inl (omega arith, omega arith) | inr v ↦ elim v [ inl g ↦ inl (omega arith, omega arith) | inr g ↦ inr (omega arith, omega arith) ] ]
-          | inr f ↦ elim (cases_order p q) [ inl g ↦ inl (omega arith, omega arith) | inr v ↦ elim v [ inl g ↦ inr (omega arith, omega arith) | inr g ↦ inl (omega arith, omega arith) ] ] ] ]
+        | inl f ↦ elim (cases_order p q) [ inl g ↦ inl (omega arith, omega arith) | inr v ↦ elim v [ inl g ↦ inl (omega arith, omega arith) | inr g ↦ inr (omega arith, omega arith) ] ]
+        | inr f ↦ elim (cases_order p q) [ inl g ↦ inl (omega arith, omega arith) | inr v ↦ elim v [ inl g ↦ inr (omega arith, omega arith) | inr g ↦ inl (omega arith, omega arith) ] ]
+      ]
+    ]
 
 -- the side s-t is none of those before s
 head_apart : (E : Setting) (s t : ℕ) (r : List ℕ) → ((a b : ℕ) → Links t (s ∷ r) a b → E.B a b) → (p q : ℕ) → Links s r p q → key s t ≢ key p q
@@ -108,8 +110,9 @@ head_apart E s t r rising p q k e =
     let hqs : UpTo E.B q s = link_below E s r (λ a b l. rising a b (inr l)) p q k in
     let hqt : E.B q t = up_to_before E q s t hqs hst in
     elim (key_cases s t p q e) [
-        inl f ↦ E.irrefl t (subst (λ x. E.B x t) (sym f.1) hqt)
-      | inr f ↦ E.irrefl t (subst (λ x. E.B x t) (sym f.1) (E.trans p q t hpq hqt)) ]
+      | inl f ↦ E.irrefl t (subst (λ x. E.B x t) (sym f.1) hqt)
+      | inr f ↦ E.irrefl t (subst (λ x. E.B x t) (sym f.1) (E.trans p q t hpq hqt))
+    ]
 
 pub keys_distinct : (E : Setting) (t : ℕ) (r : List ℕ) (rest : List Key) → ((a b : ℕ) → Links t r a b → E.B a b) → AllPairs (λ (x y : Key). x ≢ y) rest
     → ((p q : ℕ) → Links t r p q → All (λ (y : Key). key p q ≢ y) rest) → AllPairs (λ (x y : Key). x ≢ y) (chain_keys t r ++ rest)
@@ -117,16 +120,16 @@ unfolding chain_keys
 keys_distinct E t [] rest rising d apart = d
 keys_distinct E t (s ∷ r) rest rising d apart =
     AllPairs-cons (λ (x y : Key). x ≢ y) (key s t) (chain_keys s r ++ rest)
-        (All-append (λ (y : Key). key s t ≢ y) (chain_keys s r) rest
-            (all_keys (λ (y : Key). key s t ≢ y) s r (λ p q k. head_apart E s t r rising p q k)) (apart s t (inl (refl, refl))))
-        (keys_distinct E s r rest (λ a b k. rising a b (inr k)) d (λ p q k. apart p q (inr k)))
+    (All-append (λ (y : Key). key s t ≢ y) (chain_keys s r) rest
+    (all_keys (λ (y : Key). key s t ≢ y) s r (λ p q k. head_apart E s t r rising p q k)) (apart s t (inl (refl, refl))))
+    (keys_distinct E s r rest (λ a b k. rising a b (inr k)) d (λ p q k. apart p q (inr k)))
 
 distinct_from : (xs : List Key) → AllPairs (λ (x y : Key). x ≢ y) xs → IsDistinct same xs
 distinct_from xs d = IsDistinct-from_apart same xs
     (λ i j x hij hj. not_true (same (get_or xs i x) (get_or xs j x))
-        (λ e. d i j x hij hj (ap₂ (λ (a b : ℕ). (let u : Key = (a, b) in u))
-            (first_of_true (get_or xs i x).0 (get_or xs i x).1 (get_or xs j x).0 (get_or xs j x).1 e)
-            (second_of_true (get_or xs i x).0 (get_or xs i x).1 (get_or xs j x).0 (get_or xs j x).1 e))))
+    (λ e. d i j x hij hj (ap₂ (λ (a b : ℕ). (let u : Key = (a, b) in u))
+    (first_of_true (get_or xs i x).0 (get_or xs i x).1 (get_or xs j x).0 (get_or xs j x).1 e)
+    (second_of_true (get_or xs i x).0 (get_or xs i x).1 (get_or xs j x).0 (get_or xs j x).1 e))))
 
 -- pairs with the same ends are the same
 made : (a b : ℕ) → ordered-type a b → Pair

@@ -26,10 +26,10 @@ chains_done S acc T (t ∷ r) [] z h all d count = absurd h
 chains_done S acc T (t ∷ r) (t2 ∷ r2) z h all d count =
     let o = other_point z (length S) (let c : 3 ≤ length S = acc.count.0 in omega arith) in
     record {
-        distinct = d;
-        triangulation = is_triangulation S acc.apart T r r2 z o.0 h.2 all o.1 o.2;
-        count = triangulation_count S acc.apart acc.spread T r r2 z h.2 all count;
-        sweep = are_sweep_pairs S acc.apart T r r2 z h.2
+      distinct = d;
+      triangulation = is_triangulation S acc.apart T r r2 z o.0 h.2 all o.1 o.2;
+      count = triangulation_count S acc.apart acc.spread T r r2 z h.2 all count;
+      sweep = are_sweep_pairs S acc.apart T r r2 z h.2;
     }
 
 pub done : (S : List Point) (T : List Pair) (l l2 : List ℕ) → IsSweptWhole S T l l2 → IsSweepTriangulation S T

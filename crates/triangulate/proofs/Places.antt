@@ -37,18 +37,18 @@ places S apart i j hi hj =
 -- the points in the order of the sweep
 abbrev pub sweep_setting : (S : List Point) → AreApart S → Setting
 sweep_setting S apart = record {
-    n = length S;
-    B = IsSweptBefore S;
-    trans = λ i j k g h. before_trans (point S i) (point S j) (point S k) g h;
-    irrefl = λ i h. before_irrefl (point S i) h;
-    place = places S apart
+  n = length S;
+  B = IsSweptBefore S;
+  trans = λ i j k g h. before_trans (point S i) (point S j) (point S k) g h;
+  irrefl = λ i h. before_irrefl (point S i) h;
+  place = places S apart;
 }
 
 pub plane_laws : (S : List Point) (apart : AreApart S) → Laws (sweep_setting S apart) (orientation S)
 plane_laws S apart = record {
-    cycle = λ i j k. area_cycle (point S i) (point S j) (point S k);
-    swap = λ i j k. area_swap (point S i) (point S j) (point S k);
-    order = λ i j k l p q r. in_order (point S i) (point S j) (point S k) (point S l) p q r
+  cycle = λ i j k. area_cycle (point S i) (point S j) (point S k);
+  swap = λ i j k. area_swap (point S i) (point S j) (point S k);
+  order = λ i j k l p q r. in_order (point S i) (point S j) (point S k) (point S l) p q r;
 }
 
 pub opposite_laws : (S : List Point) (apart : AreApart S) → Laws (sweep_setting S apart) (opposite S)

@@ -1,14 +1,14 @@
 -- Segments on two sides of a line don't cross.
-use Rattle.std.proofs.Common.{◌≡◌, ◌≢◌, ℕ, ℤ, pos, ◌+ℤ◌, ◌-ℤ◌, ◌*ℤ◌, neg_ℤ, arith, sym, ◌∙◌, refl, ap, ap₂, inl, inr, ◌⊎◌}
+use Rattle.std.proofs.Common.{◌≡◌, ◌≢◌, ℤ, pos, ◌+ℤ◌, ◌-ℤ◌, ◌*ℤ◌, neg_ℤ, arith, sym, ◌∙◌, ap, ap₂, inl, inr, ◌⊎◌}
 use Rattle.std.specs.Prelude.{◌<ℤ◌, ◌≤ℤ◌}
 use Rattle.std.proofs.Math.IntN.{*ℤ_comm}
 use Rattle.std.proofs.lemmas.Int.{ints}
 use Rattle.plane.specs.declared.coordinates.Point.{Point}
 use Rattle.plane.specs.Geometry.{area, AreOpposite}
-use Rattle.plane.proofs.Determinant.{mul_add, mul_neg, mul_differences}
+use Rattle.plane.proofs.Determinant.{mul_add, mul_neg}
 use Rattle.plane_laws.specs.Order.{IsBefore}
 use Rattle.plane_laws.proofs.Products.{cross, three, mul_sub, sub_mul, add_mul, left_comm, mul_weak, mul_strict}
-use Rattle.plane_laws.proofs.Steps.{by_sign, nil_left, nil_right}
+use Rattle.plane_laws.proofs.Steps.{by_sign, nil_left}
 use Rattle.plane_laws.proofs.Between.{by_order}
 use Rattle.plane_laws.proofs.Orientations.{det, area_sides, area_four, area_swap, area_cycle, all_in_line}
 
@@ -24,10 +24,20 @@ turned_cross ax ay bx by = omega (arith, ints)
 upward : (a b c : Point) → det b c *ℤ a.y +ℤ det a b *ℤ c.y ≡ det a c *ℤ b.y
 unfolding det
 upward a b c =
-    omega (arith, ints, three a.y a.x b.y b.x c.y c.x,
-        ap (λ z. b.y *ℤ z) (turned_cross a.x a.y c.x c.y), mul_neg b.y (cross a.x a.y c.x c.y), *ℤ_comm b.y (cross a.x a.y c.x c.y),
-        ap (λ z. a.y *ℤ z) (turned_cross b.x b.y c.x c.y), mul_neg a.y (cross b.x b.y c.x c.y), *ℤ_comm a.y (cross b.x b.y c.x c.y),
-        ap (λ z. c.y *ℤ z) (turned_cross a.x a.y b.x b.y), mul_neg c.y (cross a.x a.y b.x b.y), *ℤ_comm c.y (cross a.x a.y b.x b.y))
+    omega (
+      arith,
+      ints,
+      three a.y a.x b.y b.x c.y c.x,
+      ap (λ z. b.y *ℤ z) (turned_cross a.x a.y c.x c.y),
+      mul_neg b.y (cross a.x a.y c.x c.y),
+      *ℤ_comm b.y (cross a.x a.y c.x c.y),
+      ap (λ z. a.y *ℤ z) (turned_cross b.x b.y c.x c.y),
+      mul_neg a.y (cross b.x b.y c.x c.y),
+      *ℤ_comm a.y (cross b.x b.y c.x c.y),
+      ap (λ z. c.y *ℤ z) (turned_cross a.x a.y b.x b.y),
+      mul_neg c.y (cross a.x a.y b.x b.y),
+      *ℤ_comm c.y (cross a.x a.y b.x b.y),
+    )
 
 -- a product of the area, by the determinants
 spread : (p q r : Point) (z : ℤ) → area p q r *ℤ z ≡ (det p q *ℤ z +ℤ det q r *ℤ z) -ℤ det p r *ℤ z
@@ -63,19 +73,19 @@ weighed : (A B C D fa fb fc fd e dx dy ax ay bx by cx cy dx2 dy2 : ℤ) → B +�
     → B *ℤ fa +ℤ D *ℤ fc ≡ A *ℤ fb +ℤ C *ℤ fd
 weighed A B C D fa fb fc fd e dx dy ax ay bx by cx cy dx2 dy2 hs hx hy ea eb ec ed =
     combined (B *ℤ fa) (D *ℤ fc) (A *ℤ fb) (C *ℤ fd)
-        (dx *ℤ (B *ℤ ay)) (dx *ℤ (D *ℤ cy)) (dx *ℤ (A *ℤ by)) (dx *ℤ (C *ℤ dy2)) (dy *ℤ (B *ℤ ax)) (dy *ℤ (D *ℤ cx)) (dy *ℤ (A *ℤ bx)) (dy *ℤ (C *ℤ dx2))
-        (B *ℤ e) (D *ℤ e) (A *ℤ e) (C *ℤ e)
-        (scaled B fa fa e dx dy ax ay ea) (scaled D fc fc e dx dy cx cy ec) (scaled A fb fb e dx dy bx by eb) (scaled C fd fd e dx dy dx2 dy2 ed)
-        (sym (mul_add dx (B *ℤ ay) (D *ℤ cy)) ∙ ap (λ z. dx *ℤ z) hy ∙ mul_add dx (A *ℤ by) (C *ℤ dy2))
-        (sym (mul_add dy (B *ℤ ax) (D *ℤ cx)) ∙ ap (λ z. dy *ℤ z) hx ∙ mul_add dy (A *ℤ bx) (C *ℤ dx2))
-        (sym (add_mul B D e) ∙ ap (λ z. z *ℤ e) hs ∙ add_mul A C e)
+    (dx *ℤ (B *ℤ ay)) (dx *ℤ (D *ℤ cy)) (dx *ℤ (A *ℤ by)) (dx *ℤ (C *ℤ dy2)) (dy *ℤ (B *ℤ ax)) (dy *ℤ (D *ℤ cx)) (dy *ℤ (A *ℤ bx)) (dy *ℤ (C *ℤ dx2))
+    (B *ℤ e) (D *ℤ e) (A *ℤ e) (C *ℤ e)
+    (scaled B fa fa e dx dy ax ay ea) (scaled D fc fc e dx dy cx cy ec) (scaled A fb fb e dx dy bx by eb) (scaled C fd fd e dx dy dx2 dy2 ed)
+    (sym (mul_add dx (B *ℤ ay) (D *ℤ cy)) ∙ ap (λ z. dx *ℤ z) hy ∙ mul_add dx (A *ℤ by) (C *ℤ dy2))
+    (sym (mul_add dy (B *ℤ ax) (D *ℤ cx)) ∙ ap (λ z. dy *ℤ z) hx ∙ mul_add dy (A *ℤ bx) (C *ℤ dx2))
+    (sym (add_mul B D e) ∙ ap (λ z. z *ℤ e) hs ∙ add_mul A C e)
 
 -- the areas of four points weigh their areas over one side to nothing
 pub weigh : (p q a b c d : Point) → area b c d *ℤ area p q a +ℤ area a b d *ℤ area p q c ≡ area a c d *ℤ area p q b +ℤ area a b c *ℤ area p q d
 weigh p q a b c d =
     weighed (area a c d) (area b c d) (area a b c) (area a b d) (area p q a) (area p q b) (area p q c) (area p q d)
-        ((q.x -ℤ p.x) *ℤ p.y -ℤ (q.y -ℤ p.y) *ℤ p.x) (q.x -ℤ p.x) (q.y -ℤ p.y) a.x a.y b.x b.y c.x c.y d.x d.y
-        (omega (arith, ints, area_four a b c d)) (weigh_x a b c d) (weigh_y a b c d) (over p q a) (over p q b) (over p q c) (over p q d)
+    ((q.x -ℤ p.x) *ℤ p.y -ℤ (q.y -ℤ p.y) *ℤ p.x) (q.x -ℤ p.x) (q.y -ℤ p.y) a.x a.y b.x b.y c.x c.y d.x d.y
+    (omega (arith, ints, area_four a b c d)) (weigh_x a b c d) (weigh_y a b c d) (over p q a) (over p q b) (over p q c) (over p q d)
 
 zero_left : (k f : ℤ) → pos 0 <ℤ k → f ≤ℤ pos 0 → pos 0 ≤ℤ (k *ℤ f) → f ≡ pos 0
 zero_left k f hk hf h = by_sign f (λ p. absurd (omega (arith, ints))) (λ p. p)
@@ -97,10 +107,12 @@ balance k l m n a b c d hk hl hm hn ha hb hc hd h =
     let ka : (k *ℤ a) ≤ℤ pos 0 = at_most k a hk ha in
     let lb : (l *ℤ b) ≤ℤ pos 0 = at_most l b hl hb in
     let mc : pos 0 ≤ℤ (m *ℤ c) = mul_weak m c (omega (arith, ints)) hc in
-    let nd : pos 0 ≤ℤ (n *ℤ d) = mul_weak n d (omega (arith, ints)) hd in
-    (zero_left k a hk ha (omega (arith, ints)), zero_left l b hl hb (omega (arith, ints)),
-     neg_zero c (zero_left m (neg_ℤ c) hm (omega (arith, ints)) (omega (arith, ints, mul_neg m c))),
-     neg_zero d (zero_left n (neg_ℤ d) hn (omega (arith, ints)) (omega (arith, ints, mul_neg n d))))
+    let nd : pos 0 ≤ℤ (n *ℤ d) = mul_weak n d (omega (arith, ints)) hd in (
+      zero_left k a hk ha (omega (arith, ints)),
+      zero_left l b hl hb (omega (arith, ints)),
+      neg_zero c (zero_left m (neg_ℤ c) hm (omega (arith, ints)) (omega (arith, ints, mul_neg m c))),
+      neg_zero d (zero_left n (neg_ℤ d) hn (omega (arith, ints)) (omega (arith, ints, mul_neg n d))),
+    )
 
 -- the two cases of opposite signs
 crossed_first : (A B C D a b c d : ℤ) → B +ℤ D ≡ A +ℤ C → B *ℤ a +ℤ D *ℤ c ≡ A *ℤ b +ℤ C *ℤ d → A <ℤ pos 0 → pos 0 <ℤ B → AreOpposite C D
@@ -108,14 +120,14 @@ crossed_first : (A B C D a b c d : ℤ) → B +ℤ D ≡ A +ℤ C → B *ℤ a +
 crossed_first A B C D a b c d hs h hA hB (inl o) ha hb hc hd = absurd (omega (arith, ints, o.0, o.1))
 crossed_first A B C D a b c d hs h hA hB (inr o) ha hb hc hd =
     balance B (neg_ℤ A) (neg_ℤ D) C a b c d hB (omega (arith, ints)) (omega (arith, ints, o.1)) o.0 ha hb hc hd
-        (omega (arith, ints, negated A b, negated D c))
+    (omega (arith, ints, negated A b, negated D c))
 
 crossed_second : (A B C D a b c d : ℤ) → B +ℤ D ≡ A +ℤ C → B *ℤ a +ℤ D *ℤ c ≡ A *ℤ b +ℤ C *ℤ d → pos 0 <ℤ A → B <ℤ pos 0 → AreOpposite C D
     → a ≤ℤ pos 0 → b ≤ℤ pos 0 → pos 0 ≤ℤ c → pos 0 ≤ℤ d → (a ≡ pos 0) × (b ≡ pos 0) × (c ≡ pos 0) × (d ≡ pos 0)
 crossed_second A B C D a b c d hs h hA hB (inr o) ha hb hc hd = absurd (omega (arith, ints, o.0, o.1))
 crossed_second A B C D a b c d hs h hA hB (inl o) ha hb hc hd =
     balance (neg_ℤ B) A D (neg_ℤ C) a b c d (omega (arith, ints)) hA o.1 (omega (arith, ints, o.0)) ha hb hc hd
-        (omega (arith, ints, negated B a, negated C d))
+    (omega (arith, ints, negated B a, negated C d))
 
 crossed : (A B C D a b c d : ℤ) → B +ℤ D ≡ A +ℤ C → B *ℤ a +ℤ D *ℤ c ≡ A *ℤ b +ℤ C *ℤ d → AreOpposite A B → AreOpposite C D
     → a ≤ℤ pos 0 → b ≤ℤ pos 0 → pos 0 ≤ℤ c → pos 0 ≤ℤ d → (a ≡ pos 0) × (b ≡ pos 0) × (c ≡ pos 0) × (d ≡ pos 0)
@@ -142,9 +154,8 @@ on_two_sides p q a b c d hpq ha hb hc hd h =
     let A : area c d a ≡ area a c d = area_cycle a c d in
     let B : area c d b ≡ area b c d = area_cycle b c d in
     let z = crossed (area a c d) (area b c d) (area a b c) (area a b d) (area p q a) (area p q b) (area p q c) (area p q d)
-        (omega (arith, ints, area_four a b c d)) (weigh p q a b c d) (opposite_same (area c d a) (area c d b) (area a c d) (area b c d) A B h.1) h.0 ha hb hc hd in
+    (omega (arith, ints, area_four a b c d)) (weigh p q a b c d) (opposite_same (area c d a) (area c d b) (area a c d) (area b c d) A B h.1) h.0 ha hb hc hd in
     not_opposite_zero (area a b c) (area a b d) (line p q a b c hpq z.0 z.1 z.2) h.0
-
 
 -- a point right of a side isn't where the side's ends are equal
 side_ends : (p q z : Point) → area p q z <ℤ pos 0 → p ≢ q

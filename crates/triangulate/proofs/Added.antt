@@ -1,5 +1,5 @@
 -- Adding one point: the first joining, the two chains in turn, and the end.
-use Rattle.std.proofs.Common.{◌≡◌, ◌≢◌, ℕ, ℤ, pos, neg_ℤ, ◌<◌, ◌+◌, ◌*◌, ◌⊎◌, inl, inr, min, max, List, [], ◌∷◌, ◌++◌, length, sym, ◌∙◌, ap, refl, subst, subst₂, arith, length-append}
+use Rattle.std.proofs.Common.{◌≡◌, ◌≢◌, ℕ, ℤ, ◌<◌, ◌+◌, ◌*◌, inl, inr, min, max, List, [], ◌∷◌, ◌++◌, length, sym, refl, subst, subst₂, arith, length-append}
 use Rattle.std.proofs.lemmas.List.Elements.{All-cons, All-nil}
 use Rattle.std.specs.List.{All}
 use Rattle.plane.specs.declared.coordinates.Point.{Point}
@@ -7,15 +7,11 @@ use Rattle.plane.specs.declared.segment.Pair.{Pair}
 use Rattle.plane.specs.Geometry.{orientation}
 use Rattle.plane.specs.Accepted.{AreApart}
 use Rattle.partition_defs.specs.Partition.{Joins, HasEnds}
-use Rattle.partition_defs.specs.Triangulation.{AreDistinct}
 use Rattle.partition_defs.specs.Sweep.{IsSweptBefore}
 use Rattle.triangulate.specs.declared.sweep.Part.{Part}
-use Rattle.triangulate.specs.declared.sweep.Part.TheVariants.{Lower, Upper}
-use Rattle.triangulate.specs.Sides.{UpTo}
-use Rattle.triangulate.specs.State.{Side, Joining, Links, Whole, Chain, Reach, Settled}
-use Rattle.triangulate.specs.Swept.{opposite, turn, other_turn, AreJoining, IsJoining, AreWhole, IsSwept, IsSettled, IsSeen, IsNext}
-use Rattle.triangulate.proofs.Field.{Setting, Laws, AreTurned, turned_back, up_to_not_before}
-use Rattle.triangulate.proofs.State.{Adds}
+use Rattle.triangulate.specs.State.{Side, Links, Whole, Reach}
+use Rattle.triangulate.specs.Swept.{opposite, turn, other_turn, AreJoining, IsJoining, AreWhole, IsSwept, IsSettled, IsNext}
+use Rattle.triangulate.proofs.Field.{Setting, up_to_not_before}
 use Rattle.triangulate.proofs.Moves.{start, turned, finish}
 use Rattle.triangulate.proofs.Places.{sweep_setting, plane_laws, opposite_laws, opposite_turned}
 use Rattle.triangulate.proofs.Joined.{ends_of_new, push_adds, push_distinct, part_laws, part_turned}

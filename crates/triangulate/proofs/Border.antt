@@ -1,7 +1,7 @@
 -- The border pairs are the sides of the two chains, each once.
-use Rattle.std.proofs.Common.{◌≡◌, ◌≢◌, ℕ, zero, suc, ℤ, pos, neg_ℤ, ◌<◌, ◌≤◌, ◌+◌, ◌*◌, ◌⊎◌, inl, inr, min, max, List, [], ◌∷◌, ◌++◌, length, get_or, map, sym, ◌∙◌, ap, ap₂, refl, subst, subst₂, arith, length-append, append-nil}
-use Rattle.std.specs.Prelude.{◌<ℤ◌, ◌≤ℤ◌}
-use Rattle.std.specs.List.{All, AllPairs, Any, Contains}
+use Rattle.std.proofs.Common.{◌≡◌, ◌≢◌, ℕ, ℤ, pos, neg_ℤ, ◌<◌, ◌+◌, ◌*◌, ◌⊎◌, inl, inr, List, [], ◌∷◌, ◌++◌, length, get_or, map, sym, ◌∙◌, ap, ap₂, refl, subst, subst₂, arith, length-append, append-nil}
+use Rattle.std.specs.Prelude.{◌≤ℤ◌}
+use Rattle.std.specs.List.{All, AllPairs, Contains}
 use Rattle.std.proofs.lemmas.Bool.{cases_order}
 use Rattle.std.proofs.lemmas.List.{get_or-map, length-map}
 use Rattle.std.proofs.lemmas.List.Elements.{All-contains, Contains-get_or, Contains-append_left, Contains-append_right, Contains-append_cases}
@@ -12,10 +12,10 @@ use Rattle.plane.specs.Geometry.{point, orientation, IsBorderPair}
 use Rattle.plane.specs.Accepted.{AreApart, AreSpread}
 use Rattle.plane_laws.proofs.Orientations.{all_in_line, area_swap}
 use Rattle.partition_defs.specs.Partition.{Joins, HasEnds}
-use Rattle.partition_defs.specs.Triangulation.{AreDistinct, IsBorderList, HasTriangulationCount}
+use Rattle.partition_defs.specs.Triangulation.{IsBorderList, HasTriangulationCount}
 use Rattle.partition_defs.specs.Sweep.{IsSweptBefore}
 use Rattle.triangulate.specs.Sides.{UpTo}
-use Rattle.triangulate.specs.State.{Links, Side, Chain, Whole}
+use Rattle.triangulate.specs.State.{Links, Side}
 use Rattle.triangulate.specs.Swept.{opposite}
 use Rattle.triangulate.proofs.Field.{Setting, turned_back, not_both}
 use Rattle.triangulate.proofs.Final.{All as AllIn, clear_turned}

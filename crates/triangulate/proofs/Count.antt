@@ -1,36 +1,25 @@
 -- How many border pairs there are: as many as the two chains have sides.
-use Rattle.std.proofs.Common.{◌≡◌, ◌≢◌, ℕ, zero, suc, ℤ, pos, neg_ℤ, ◌<◌, ◌≤◌, ◌+◌, ◌*◌, ◌⊎◌, inl, inr, min, max, List, [], ◌∷◌, ◌++◌, length, get_or, map, Bool, true, false, true≢false, eqb, sym, ◌∙◌, ap, ap₂, refl, subst, subst₂, arith, length-append}
-use Rattle.std.specs.Prelude.{◌<ℤ◌, ◌≤ℤ◌, ◌&&◌}
-use Rattle.std.specs.List.{All, AllPairs, Any, Contains, IsDistinct, list_any}
+use Rattle.std.proofs.Common.{◌≡◌, ◌≢◌, ℕ, zero, suc, ◌<◌, ◌≤◌, ◌⊎◌, inl, inr, min, max, List, [], ◌∷◌, ◌++◌, length, get_or, map, Bool, true, false, eqb, sym, ◌∙◌, ap, ap₂, refl, subst, subst₂, arith}
+use Rattle.std.specs.Prelude.{◌&&◌}
+use Rattle.std.specs.List.{All, AllPairs, Any, Contains, IsDistinct}
 use Rattle.std.specs.Cmp.{IsEquivalence}
 use Rattle.std.specs.Set.{is_member}
 use Rattle.std.proofs.lemmas.Cmp.{and_equiv, on_equiv, nat_eq_equiv}
 use Rattle.std.proofs.lemmas.Bool.Decides.{nat_tests}
 use Rattle.std.proofs.lemmas.Bool.{cases_order}
 use Rattle.std.proofs.lemmas.List.{get_or-map, length-map}
-use Rattle.std.proofs.lemmas.List.Folds.{list_any_at, list_any-from_Any, Any-from_list_any}
-use Rattle.std.proofs.lemmas.List.Elements.{All-cons, All-nil, All-append, All-contains, Contains-get_or, Contains-append_left, Contains-append_right, Contains-append_cases}
+use Rattle.std.proofs.lemmas.List.Folds.{list_any_at, Any-from_list_any}
+use Rattle.std.proofs.lemmas.List.Elements.{All-cons, All-nil, All-append}
 use Rattle.std.proofs.lemmas.List.Kept.{AllPairs-cons}
 use Rattle.std.proofs.lemmas.Map.Keys.{IsDistinct-from_apart}
 use Rattle.std.proofs.lemmas.Map.Made.{length-le_from_is_member}
-use Rattle.std.proofs.lemmas.Int.{ints}
 use Rattle.std.proofs.Math.Bridge.{le_prop}
-use Rattle.plane.specs.declared.coordinates.Point.{Point}
 use Rattle.plane.specs.declared.segment.Pair.{Pair, ordered-type}
-use Rattle.plane.specs.Geometry.{point, orientation, IsBorderPair}
-use Rattle.plane.specs.Accepted.{AreApart, AreSpread}
-use Rattle.plane_laws.proofs.Orientations.{all_in_line}
-use Rattle.partition_defs.specs.Partition.{Joins, HasEnds}
-use Rattle.partition_defs.specs.Triangulation.{AreDistinct, IsBorderList}
-use Rattle.partition_defs.specs.Sweep.{IsSweptBefore}
+use Rattle.partition_defs.specs.Triangulation.{AreDistinct}
 use Rattle.triangulate.specs.Sides.{UpTo}
-use Rattle.triangulate.specs.State.{Links, Side, Chain, Whole}
-use Rattle.triangulate.specs.Swept.{opposite}
+use Rattle.triangulate.specs.State.{Links}
 use Rattle.triangulate.proofs.Field.{Setting, up_to_before}
 use Rattle.triangulate.proofs.Moves.{link_below}
-use Rattle.triangulate.proofs.Final.{All as AllIn}
-use Rattle.triangulate.proofs.Places.{sweep_setting}
-use Rattle.triangulate.proofs.Triangulated.{Swept, border_links, clear_from, border_swap}
 
 -- two numbers, the smaller first, as a pair's ends
 abbrev pub Key : Type 0

@@ -1,17 +1,12 @@
 -- The sweep at its end.
-use Rattle.std.proofs.Common.{◌≡◌, ◌≢◌, ℕ, zero, suc, ◌<◌, ◌≤◌, ◌+◌, ◌*◌, ◌⊎◌, inl, inr, List, [], ◌∷◌, length, sym, ◌∙◌, ap, refl, subst, arith}
+use Rattle.std.proofs.Common.{◌≡◌, ◌≢◌, ℕ, zero, suc, ◌<◌, ◌≤◌, ◌+◌, ◌*◌, List, [], ◌∷◌, length, arith}
 use Rattle.plane.specs.declared.coordinates.Point.{Point}
 use Rattle.plane.specs.declared.segment.Pair.{Pair}
-use Rattle.plane.specs.Geometry.{orientation}
-use Rattle.plane.specs.Accepted.{AreApart, AreAccepted}
-use Rattle.partition_defs.specs.Partition.{Joins}
-use Rattle.partition_defs.specs.Triangulation.{AreDistinct, IsTriangulation, HasTriangulationCount}
-use Rattle.partition_defs.specs.Sweep.{IsSweptBefore, AreSweepPairs}
+use Rattle.plane.specs.Accepted.{AreAccepted}
+use Rattle.partition_defs.specs.Triangulation.{AreDistinct}
+use Rattle.partition_defs.specs.Sweep.{IsSweptBefore}
 use Rattle.triangulate.specs.Sides.{UpTo}
-use Rattle.triangulate.specs.State.{Whole}
-use Rattle.triangulate.specs.Swept.{opposite, AreWhole, IsSwept, IsSweptWhole, IsSweepTriangulation}
-use Rattle.triangulate.proofs.Final.{All}
-use Rattle.triangulate.proofs.Places.{sweep_setting}
+use Rattle.triangulate.specs.Swept.{AreWhole, IsSweptWhole, IsSweepTriangulation}
 use Rattle.triangulate.proofs.Triangulated.{is_triangulation, are_sweep_pairs}
 use Rattle.triangulate.proofs.Border.{triangulation_count}
 

@@ -1,11 +1,10 @@
 -- What the state says when all points are in it.
-use Rattle.std.proofs.Common.{◌≡◌, ◌≢◌, ℕ, ℤ, pos, neg_ℤ, ◌<◌, ◌⊎◌, inl, inr, sym, ◌∙◌, ap, refl, subst, subst₂, List, [], ◌∷◌, arith}
+use Rattle.std.proofs.Common.{◌≡◌, ◌≢◌, ℕ, ℤ, pos, neg_ℤ, ◌<◌, ◌⊎◌, inl, inr, sym, subst, subst₂, List, arith}
 use Rattle.std.specs.Prelude.{◌<ℤ◌, ◌≤ℤ◌}
 use Rattle.std.proofs.lemmas.Int.{ints}
-use Rattle.triangulate.proofs.Field.{Setting, Laws, AreTurned, turned_back, by_place, not_both, up_to_before, before_up_to, up_to_not_before, flip, zero_ends, zero_first, zero_last}
-use Rattle.triangulate.proofs.Turns.{Spine, opposite_turned}
+use Rattle.triangulate.proofs.Field.{Setting, Laws, AreTurned, by_place, before_up_to, zero_last}
+use Rattle.triangulate.proofs.Turns.{opposite_turned}
 use Rattle.triangulate.proofs.Sides.{one_side}
-use Rattle.triangulate.proofs.Step.{at}
 use Rattle.triangulate.specs.Sides.{UpTo, Clear, Cross}
 use Rattle.triangulate.specs.State.{Links, Side, Covered, Chain, Sweeps, Apex, Pairs, Met, Whole}
 

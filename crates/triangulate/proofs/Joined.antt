@@ -1,6 +1,6 @@
 -- Joining one more point, on the lists of pairs and of points that the code keeps.
-use Rattle.std.proofs.Common.{◌≡◌, ◌≢◌, ℕ, ℤ, pos, neg_ℤ, ◌<◌, ◌+◌, ◌*◌, ◌⊎◌, inl, inr, min, max, List, [], ◌∷◌, ◌++◌, length, get_or, sym, ◌∙◌, ap, refl, subst, arith, length-append}
-use Rattle.std.specs.Prelude.{◌<ℤ◌, ◌≤ℤ◌}
+use Rattle.std.proofs.Common.{◌≡◌, ◌≢◌, ℕ, ℤ, pos, ◌<◌, ◌+◌, ◌*◌, ◌⊎◌, inl, inr, min, max, List, [], ◌∷◌, ◌++◌, length, get_or, sym, ◌∙◌, refl, subst, arith, length-append}
+use Rattle.std.specs.Prelude.{◌<ℤ◌}
 use Rattle.std.specs.List.{All, Contains}
 use Rattle.std.proofs.lemmas.List.Elements.{All-tail, Contains-append_left, Contains-push, Contains-push_cases, Contains-get_or}
 use Rattle.std.proofs.lemmas.List.Quantifiers.{all_pairs_push}
@@ -15,7 +15,7 @@ use Rattle.partition_defs.specs.Sweep.{IsSweptBefore}
 use Rattle.triangulate.specs.declared.sweep.Part.{Part}
 use Rattle.triangulate.specs.declared.sweep.Part.TheVariants.{Lower, Upper}
 use Rattle.triangulate.specs.Chains.{shortened}
-use Rattle.triangulate.specs.State.{Side, Joining, Links}
+use Rattle.triangulate.specs.State.{Side}
 use Rattle.triangulate.specs.Swept.{opposite, turn, other_turn, AreJoining, IsJoining, IsSeen}
 use Rattle.triangulate.proofs.Field.{Setting, Laws, AreTurned, turned_back}
 use Rattle.triangulate.proofs.State.{Adds}

@@ -1,12 +1,12 @@
 -- The other moves of the sweep: its two chains changed, the first joining of a point, and the end of joining it.
-use Rattle.std.proofs.Common.{◌≡◌, ◌≢◌, ℕ, ℤ, pos, neg_ℤ, ◌<◌, ◌⊎◌, inl, inr, sym, ◌∙◌, ap, refl, subst, subst₂, List, [], ◌∷◌, arith}
+use Rattle.std.proofs.Common.{◌≡◌, ℕ, ℤ, pos, neg_ℤ, ◌<◌, inl, inr, sym, refl, subst, List, [], ◌∷◌, arith}
 use Rattle.std.specs.Prelude.{◌<ℤ◌, ◌≤ℤ◌}
 use Rattle.std.proofs.lemmas.Int.{ints}
-use Rattle.triangulate.proofs.Field.{Setting, Laws, AreTurned, turned_back, by_place, not_both, up_to_before, before_up_to, up_to_not_before, flip, zero_ends, zero_first, zero_last}
-use Rattle.triangulate.proofs.Turns.{Spine, beyond_side, opposite_turned, same_above}
+use Rattle.triangulate.proofs.Field.{Setting, Laws, AreTurned, by_place, up_to_before, before_up_to, up_to_not_before, zero_ends, zero_last}
+use Rattle.triangulate.proofs.Turns.{beyond_side, opposite_turned}
 use Rattle.triangulate.proofs.Sides.{settled_before, settled_side}
 use Rattle.triangulate.proofs.State.{Adds}
-use Rattle.triangulate.proofs.Step.{at, side_more, chain_more, reach_more, apex_more, pairs_add, sweeps_new, weaken, at_zero, met_more}
+use Rattle.triangulate.proofs.Step.{at, chain_more, apex_more, pairs_add, sweeps_new, weaken, at_zero, met_more}
 use Rattle.triangulate.specs.Sides.{UpTo, AllLeft, Clear, Beyond, Cross}
 use Rattle.triangulate.specs.State.{Links, Side, Covered, Chain, Reach, Sweeps, Apex, Pairs, Met, From, Joining, Whole, Settled}
 

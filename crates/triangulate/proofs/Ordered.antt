@@ -1,10 +1,9 @@
 -- The order of the sweep, as the code goes through it.
-use Rattle.std.proofs.Common.{◌≡◌, ◌≢◌, ℕ, zero, suc, ◌<◌, ◌≤◌, ◌+◌, ◌-◌, ◌*◌, ◌⊎◌, inl, inr, List, [], ◌∷◌, length, get_or, sym, ◌∙◌, ap, refl, subst, subst₂, arith}
+use Rattle.std.proofs.Common.{◌≡◌, ℕ, ◌<◌, ◌≤◌, ◌+◌, ◌-◌, inl, inr, List, [], ◌∷◌, length, get_or, sym, ◌∙◌, ap, refl, subst, arith}
 use Rattle.std.specs.List.{Contains}
 use Rattle.std.proofs.lemmas.Bool.{cases_order}
 use Rattle.std.proofs.lemmas.Grind.{get_or_default_zero}
 use Rattle.plane.specs.declared.coordinates.Point.{Point}
-use Rattle.plane.specs.declared.segment.Pair.{Pair}
 use Rattle.plane.specs.Geometry.{orientation}
 use Rattle.plane.specs.Accepted.{AreApart, AreAccepted}
 use Rattle.partition_defs.specs.Partition.{Joins}

@@ -1,8 +1,7 @@
 -- A sorted list of the points with their indices is in the order of the sweep.
-use Rattle.std.proofs.Common.{◌≡◌, ◌≢◌, ℕ, ℤ, pos, ◌<◌, ◌≤◌, ◌⊎◌, inl, inr, sym, ◌∙◌, ap, ap₂, refl, subst, subst₂, List, [], ◌∷◌, length, get_or, map, Bool, true, false, arith, eqb, true≢false, T, Ordering, Less, Equal, Greater, is_lt, int_cmp}
-use Rattle.std.specs.Prelude.{◌<ℤ◌}
+use Rattle.std.proofs.Common.{◌≡◌, ℕ, ◌<◌, ◌≤◌, inl, inr, sym, ◌∙◌, ap, ap₂, refl, subst, subst₂, List, length, get_or, map, Bool, true, false, arith, eqb, true≢false, Ordering, is_lt, int_cmp}
 use Rattle.std.specs.List.{All, Contains, IsDistinct}
-use Rattle.std.specs.List.Sorted.{IsPermutation, IsSortedByKey, IsSortedBy}
+use Rattle.std.specs.List.Sorted.{IsPermutation, IsSortedBy}
 use Rattle.std.specs.Cmp.{IsTotalOrder}
 use Rattle.std.specs.Ordering.{ordering_then}
 use Rattle.std.proofs.lemmas.Cmp.{then_total, on_total, int_cmp_total}
@@ -18,7 +17,7 @@ use Rattle.plane.specs.Accepted.{AreApart}
 use Rattle.plane_laws.specs.Order.{IsBefore}
 use Rattle.partition_defs.specs.Sweep.{IsSweptBefore}
 use Rattle.triangulate.specs.Order.{ArePlaced, IsSweepOrder}
-use Rattle.triangulate.proofs.Places.{places, before_irrefl}
+use Rattle.triangulate.proofs.Places.{places}
 
 -- the order by x, then by y
 abbrev lex : (p q : Point) → Ordering

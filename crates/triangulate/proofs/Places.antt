@@ -1,13 +1,12 @@
 -- The points of the plane in the order of the sweep.
-use Rattle.std.proofs.Common.{◌≡◌, ◌≢◌, ℕ, ℤ, pos, neg_ℤ, ◌<◌, ◌⊎◌, inl, inr, sym, ◌∙◌, ap, ap₂, refl, subst, subst₂, List, [], ◌∷◌, length, arith}
-use Rattle.std.specs.Prelude.{◌<ℤ◌, ◌≤ℤ◌}
+use Rattle.std.proofs.Common.{◌≡◌, ℕ, ℤ, ◌<◌, ◌⊎◌, inl, inr, sym, ap₂, refl, List, length, arith}
 use Rattle.std.proofs.lemmas.Int.{ints}
 use Rattle.std.proofs.lemmas.Bool.{cases_order}
 use Rattle.plane.specs.declared.coordinates.Point.{Point}
 use Rattle.plane.specs.Geometry.{point, orientation}
 use Rattle.plane.specs.Accepted.{AreApart}
 use Rattle.partition_defs.specs.Sweep.{IsSweptBefore}
-use Rattle.plane_laws.specs.Order.{IsBefore, AreInOrder}
+use Rattle.plane_laws.specs.Order.{IsBefore}
 use Rattle.plane_laws.proofs.Orientations.{area_cycle, area_swap, in_order}
 use Rattle.plane_laws.proofs.Between.{by_order}
 use Rattle.triangulate.proofs.Field.{Setting, Laws, AreTurned, turned_laws}

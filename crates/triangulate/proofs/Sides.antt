@@ -1,12 +1,12 @@
 -- A triangle at a side that a new point sees, the side that closes a chain, and the sides of the whole.
-use Rattle.std.proofs.Common.{◌≡◌, ◌≢◌, ℕ, ℤ, pos, ◌+ℤ◌, ◌-ℤ◌, neg_ℤ, arith, ◌<◌, ◌⊎◌, inl, inr, sym, ◌∙◌, ap, refl, subst}
+use Rattle.std.proofs.Common.{◌≡◌, ◌≢◌, ℕ, ℤ, pos, neg_ℤ, arith, ◌<◌, ◌⊎◌, inl, inr, sym, ◌∙◌, subst}
 use Rattle.std.specs.Prelude.{◌<ℤ◌, ◌≤ℤ◌}
 use Rattle.std.proofs.lemmas.Int.{ints}
 use Rattle.plane_laws.specs.Order.{AreInOrder}
 use Rattle.plane_laws.proofs.Steps.{by_sign}
-use Rattle.triangulate.proofs.Signs.{second_falls, third_falls, second_rises, third_rises, first_rises, last_rises}
-use Rattle.triangulate.proofs.Field.{Setting, Laws, flip, zero_first, zero_ends, zero_last, by_place, not_both}
-use Rattle.triangulate.proofs.Turns.{not_positive, same_weak, no_sign}
+use Rattle.triangulate.proofs.Signs.{second_rises, third_rises, last_rises}
+use Rattle.triangulate.proofs.Field.{Setting, Laws, flip, by_place}
+use Rattle.triangulate.proofs.Turns.{not_positive, same_weak}
 use Rattle.triangulate.specs.Sides.{UpTo, AllLeft, Clear, Empty}
 
 pub empty_next : (E : Setting) (o : ℕ → ℕ → ℕ → ℤ) (p q r : ℕ) → Empty E.n E.B o p q r → Empty E.n E.B o q r p

@@ -1,10 +1,10 @@
 -- Joining the new point to one more point, to its first point, and the end of joining.
-use Rattle.std.proofs.Common.{◌≡◌, ◌≢◌, ℕ, ℤ, pos, neg_ℤ, ◌<◌, ◌⊎◌, inl, inr, sym, ◌∙◌, ap, refl, subst, subst₂, List, [], ◌∷◌, arith}
+use Rattle.std.proofs.Common.{◌≡◌, ◌≢◌, ℕ, ℤ, pos, neg_ℤ, ◌<◌, ◌⊎◌, inl, inr, sym, refl, subst, subst₂, List, ◌∷◌, arith}
 use Rattle.std.specs.Prelude.{◌<ℤ◌, ◌≤ℤ◌}
 use Rattle.std.proofs.lemmas.Int.{ints}
-use Rattle.triangulate.proofs.Field.{Setting, Laws, AreTurned, turned_back, by_place, not_both, up_to_before, before_up_to, up_to_not_before, flip, zero_ends, zero_first}
-use Rattle.triangulate.proofs.Turns.{Spine, beyond_side, spine_side, no_crossing, opposite_turned, same_above}
-use Rattle.triangulate.proofs.Sides.{empty_next, empty_side, settled_before, settled_side}
+use Rattle.triangulate.proofs.Field.{Setting, Laws, not_both, before_up_to, up_to_not_before, flip, zero_ends}
+use Rattle.triangulate.proofs.Turns.{Spine, beyond_side, spine_side, no_crossing, same_above}
+use Rattle.triangulate.proofs.Sides.{empty_next, empty_side}
 use Rattle.triangulate.proofs.State.{Adds}
 use Rattle.triangulate.specs.Sides.{UpTo, Beyond, Empty}
 use Rattle.triangulate.specs.State.{Links, Side, Covered, Chain, Reach, Sweeps, Apex, Pairs, From, Joining}

@@ -1,18 +1,18 @@
 -- The pairs of the state with all points are a triangulation of sweep pairs.
-use Rattle.std.proofs.Common.{◌≡◌, ◌≢◌, ℕ, ℤ, pos, neg_ℤ, ◌<◌, ◌+◌, ◌*◌, ◌⊎◌, inl, inr, sym, ◌∙◌, ap, ap₂, refl, subst, subst₂, List, [], ◌∷◌, length, arith}
-use Rattle.std.specs.Prelude.{◌<ℤ◌, ◌≤ℤ◌, ◌+ℤ◌, ◌-ℤ◌}
+use Rattle.std.proofs.Common.{◌≡◌, ◌≢◌, ℕ, ℤ, pos, neg_ℤ, ◌<◌, ◌⊎◌, inl, inr, ap₂, refl, subst, List, length, arith}
+use Rattle.std.specs.Prelude.{◌<ℤ◌, ◌+ℤ◌, ◌-ℤ◌}
 use Rattle.std.proofs.lemmas.Int.{ints}
 use Rattle.std.proofs.Math.IntN.{*ℤ_comm}
 use Rattle.std.specs.List.{Contains}
 use Rattle.plane.specs.declared.coordinates.Point.{Point}
 use Rattle.plane.specs.declared.segment.Pair.{Pair}
-use Rattle.plane.specs.Geometry.{point, orientation, scalar, IsBetween, IsClear, HasAllLeft, IsBorderPair, AreCrossing}
-use Rattle.plane.specs.Accepted.{AreApart, AreAccepted}
-use Rattle.partition_defs.specs.Partition.{HasEnds, Joins, AreWithin, AreClear, ArePlane, HasBorder}
-use Rattle.partition_defs.specs.Triangulation.{IsTriangulation, IsApex, HasLeft}
+use Rattle.plane.specs.Geometry.{point, orientation, scalar, IsBetween, IsClear, IsBorderPair, AreCrossing}
+use Rattle.plane.specs.Accepted.{AreApart}
+use Rattle.partition_defs.specs.Partition.{Joins}
+use Rattle.partition_defs.specs.Triangulation.{IsTriangulation, IsApex}
 use Rattle.partition_defs.specs.Sweep.{IsSweptBefore, IsSweptBeforeLater, IsSweepPair, AreSweepPairs}
 use Rattle.plane_laws.proofs.Between.{between_is_amid, amid_is_between}
-use Rattle.triangulate.proofs.Field.{Setting, Laws, AreTurned, by_place}
+use Rattle.triangulate.proofs.Field.{Setting, Laws, by_place}
 use Rattle.triangulate.proofs.Turns.{opposite_turned as opposite_signs}
 use Rattle.triangulate.proofs.Final.{All, apex_of, border_of, linked, met_of, plane_of}
 use Rattle.triangulate.proofs.Places.{sweep_setting, plane_laws, opposite_laws, opposite_turned}

@@ -1,11 +1,11 @@
 -- The turns at a chain of points that has all points on its left.
-use Rattle.std.proofs.Common.{◌≡◌, ◌≢◌, ℕ, ℤ, pos, ◌+ℤ◌, ◌-ℤ◌, neg_ℤ, arith, ◌<◌, ◌⊎◌, inl, inr, sym, ◌∙◌, ap, refl, subst}
+use Rattle.std.proofs.Common.{◌≡◌, ℕ, ℤ, pos, neg_ℤ, arith, ◌<◌, inl, inr, sym, subst}
 use Rattle.std.specs.Prelude.{◌<ℤ◌, ◌≤ℤ◌}
 use Rattle.std.proofs.lemmas.Int.{ints}
 use Rattle.plane_laws.specs.Order.{AreInOrder}
 use Rattle.plane.specs.Geometry.{AreOpposite}
-use Rattle.triangulate.proofs.Signs.{second_falls, third_falls, second_rises, third_rises, first_rises, last_rises}
-use Rattle.triangulate.proofs.Field.{Setting, Laws, flip, zero_first, zero_ends, zero_last, by_place, not_both}
+use Rattle.triangulate.proofs.Signs.{second_falls, third_falls, second_rises, first_rises}
+use Rattle.triangulate.proofs.Field.{Setting, Laws, flip, zero_ends, by_place}
 use Rattle.triangulate.specs.Sides.{AllLeft, Beyond, Cross}
 
 -- the chain doesn't turn to the right at a

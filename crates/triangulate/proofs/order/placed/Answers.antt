@@ -1,4 +1,4 @@
-use Rattle.std.proofs.Common.{rules, ◌≡◌, length}
+use Rattle.std.proofs.Common.{rules}
 use Rattle.std.proofs.lemmas.List.Sorted.{answers_always}
 use Rattle.plane.specs.Accepted.{AreAccepted}
 use Rattle.triangulate.proofs.Placed.{sorted_placed}

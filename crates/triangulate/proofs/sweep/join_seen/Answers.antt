@@ -1,6 +1,5 @@
-use Rattle.std.proofs.Common.{◌≡◌, ◌<◌, ◌++◌, ◌∷◌, [], ℕ, List, length, subst, subst₂, sym}
-use Rattle.triangulate.specs.Chains.{shortened}
-use Rattle.triangulate.specs.Swept.{turn, other_turn, IsJoining, IsSeen}
+use Rattle.std.proofs.Common.{◌<◌, length, subst, subst₂, sym}
+use Rattle.triangulate.specs.Swept.{turn, other_turn, IsJoining}
 use Rattle.triangulate.proofs.Joined.{seen_apart, step_joining, shorter}
 use Rattle.triangulate.proofs.Added.{chain_in, new_in}
 use Rattle.triangulate.proofs.sweep.join_seen.Goals as goal

@@ -1,9 +1,9 @@
-use Rattle.std.proofs.Common.{◌≡◌, ◌<◌, ◌≤◌, ◌+◌, ◌-◌, ◌∷◌, [], ℕ, List, length, get_or, subst, subst₂, sym, ap, ◌∙◌, arith}
+use Rattle.std.proofs.Common.{◌≡◌, ◌<◌, ◌≤◌, ◌+◌, ◌-◌, ◌∷◌, [], ℕ, List, length, get_or, subst, subst₂, sym, ◌∙◌, arith}
 use Rattle.plane.specs.declared.coordinates.Point.{Point}
 use Rattle.plane.specs.declared.segment.Pair.{Pair}
 use Rattle.plane.specs.Accepted.{AreAccepted}
 use Rattle.triangulate.specs.Order.{IsSweepOrder}
-use Rattle.triangulate.specs.Swept.{IsSwept, IsNext, IsSweptWhole}
+use Rattle.triangulate.specs.Swept.{IsSwept, IsSweptWhole}
 use Rattle.triangulate.proofs.Ordered.{first_swept, next_of, all_of}
 use Rattle.triangulate.proofs.sweep.sweep_through.Goals as goal
 

@@ -1,9 +1,9 @@
-use Rattle.std.proofs.Common.{◌≡◌, ◌<◌, ◌+◌, ◌++◌, ◌∷◌, [], ℕ, List, length, min, max, subst, subst₂, sym}
+use Rattle.std.proofs.Common.{◌≡◌, ◌+◌, ◌++◌, ◌∷◌, [], ℕ, List, min, max, subst, subst₂, sym}
 use Rattle.plane.specs.Geometry.{orientation}
 use Rattle.plane.specs.declared.coordinates.Point.{Point}
 use Rattle.plane.specs.declared.segment.Pair.{Pair}
 use Rattle.triangulate.specs.declared.sweep.Part.TheVariants.{Lower, Upper}
-use Rattle.triangulate.specs.Swept.{opposite, IsJoining, IsSwept, IsSettled, IsNext}
+use Rattle.triangulate.specs.Swept.{opposite, IsJoining, IsSwept, IsNext}
 use Rattle.triangulate.proofs.Added.{start_joining, turned_joining, finish_joining, next_apart}
 use Rattle.triangulate.proofs.sweep.Sweep.add.Goals as goal
 

@@ -7,3 +7,6 @@ mod order;
 mod sweep;
 
 pub use sweep::sweep_pairs;
+
+#[cfg(test)]
+mod tests;

@@ -47,7 +47,13 @@ fn next_seen(points: &Points, part: Part, chain: &Chain, z: u32) -> Option<u32>
 }
 
 // Joins z to the points of one part of the border that it sees, other than the last one.
-fn join_seen(points: &Points, part: Part, chain: &mut Chain, pairs: &mut Vec<Pair>, z: u32) -> Result<(), AllocError>
+fn join_seen(
+    points: &Points,
+    part: Part,
+    chain: &mut Chain,
+    pairs: &mut Vec<Pair>,
+    z: u32,
+) -> Result<(), AllocError>
     requires joining { (l2 : List ℕ) × (last : ℕ) × (k : ℕ) × IsJoining points.now (turn part points.now) (other_turn part points.now) pairs.old.items chain.old l2 z last k }
     ensures joining { IfOk result (λ _. (l2 : List ℕ) (last k : ℕ) → IsJoining points.now (turn part points.now) (other_turn part points.now) pairs.old.items chain.old l2 z last k → IsJoining points.now (turn part points.now) (other_turn part points.now) pairs.new.items chain.new l2 z last k) }
     ensures settled { IfOk result (λ _. IsSettled (turn part points.now) chain.new z) }

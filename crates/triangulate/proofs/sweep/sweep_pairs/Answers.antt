@@ -1,5 +1,3 @@
-use Rattle.std.proofs.Common.{◌≡◌, List, length}
-use Rattle.triangulate.specs.Swept.{IsSweepTriangulation}
 use Rattle.triangulate.proofs.Done.{done}
 use Rattle.triangulate.proofs.sweep.sweep_pairs.Goals as goal
 

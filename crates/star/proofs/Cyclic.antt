@@ -1,14 +1,14 @@
 -- What stands between two neighbours in turning order stands between them by orientation, where they are less than
 -- half a turn apart.
-use Rattle.std.proofs.Common.{◌≡◌, ◌≢◌, ℕ, ◌+◌, ◌<◌, ◌≤◌, Bool, List, length, ℤ, pos, ◌-ℤ◌, neg_ℤ, ◌<ℤ◌, ◌⊎◌, inl, inr, arith, sym, ◌∙◌, ap, subst, refl}
+use Rattle.std.proofs.Common.{◌≡◌, ◌≢◌, ℕ, ◌+◌, ◌<◌, length, ℤ, pos, ◌-ℤ◌, neg_ℤ, ◌<ℤ◌, inl, inr, arith}
 use Rattle.std.proofs.lemmas.Int.{ints}
 use Rattle.std.proofs.lemmas.Bool.{cases_lt}
 use Rattle.plane.specs.declared.coordinates.Point.{Point}
 use Rattle.plane.specs.Geometry.{point, area, orientation}
 use Rattle.plane.proofs.Area.{area_swap}
-use Rattle.star.specs.Turn.{IsUpper, IsLower, TurnsBefore, IsBeforeInTurn}
-use Rattle.star.specs.Stars.{Seen, IsStar, StandsAt, entry, around}
-use Rattle.star.proofs.Turning.{cross, Up, Down, turn_on, cross_back, cross_neg, neg_cross, neg_neg, up, down, not_both}
+use Rattle.star.specs.Turn.{IsUpper, IsLower, TurnsBefore}
+use Rattle.star.specs.Stars.{Seen, IsStar, entry, around}
+use Rattle.star.proofs.Turning.{cross, Up, Down, turn_on, cross_back, neg_cross, neg_neg, up, down, not_both}
 
 doubled : (x y : ℤ) → Up x y → Up (neg_ℤ (neg_ℤ x)) (neg_ℤ (neg_ℤ y))
 doubled x y (inl h) = inl (omega (arith, ints))
@@ -88,7 +88,7 @@ positions n k j hk hj jk jm = elim (cases_lt (k + 1) n) [
   | inr h ↦ (let e : around n (k + 1) ≡ 0 = grind arith in before (omega arith) (omega arith))
 ]
 
-around_inside : (n k : ℕ) → k < n → around n (k + 1) < n
+pub around_inside : (n k : ℕ) → k < n → around n (k + 1) < n
 around_inside n k hk = elim (cases_lt (k + 1) n) [
   | inl h ↦ (let e : around n (k + 1) ≡ k + 1 = grind arith in omega arith)
   | inr h ↦ (let e : around n (k + 1) ≡ 0 = grind arith in omega arith)

@@ -1,6 +1,6 @@
 -- What a star's list keeps: names and their order, through a mark, an insert and a remove.
-use Rattle.std.proofs.Common.{◌≡◌, ◌≢◌, ℕ, ◌+◌, ◌-◌, ◌<◌, ◌≤◌, Bool, true, false, List, length, get_or, set, insert, remove, map, pos, ◌⊎◌, inl, inr, arith, sym, ◌∙◌, ap, subst, refl, eqb, Any, get_or-set_other, get_or-set_same, length-set}
-use Rattle.std.specs.List.{list_any, AllPairs, IsDistinct}
+use Rattle.std.proofs.Common.{◌≡◌, ◌≢◌, ℕ, ◌+◌, ◌-◌, ◌<◌, ◌≤◌, Bool, true, false, List, length, get_or, set, insert, remove, map, ◌⊎◌, inl, inr, arith, sym, ◌∙◌, ap, subst, refl, eqb, Any, get_or-set_other, get_or-set_same, length-set}
+use Rattle.std.specs.List.{list_any, AllPairs}
 use Rattle.std.proofs.lemmas.Int.{ints}
 use Rattle.std.proofs.lemmas.List.{length-map, get_or-map}
 use Rattle.std.proofs.lemmas.List.Edits.{length-insert, get_or-insert_below, get_or-insert_at, get_or-insert_above, length-remove, get_or-remove_below, get_or-remove_above}
@@ -10,12 +10,11 @@ use Rattle.std.proofs.lemmas.Map.Steps.{length-le_from_distinct_below}
 use Rattle.std.proofs.lemmas.Bool.Decides.{Decides-eqb}
 use Rattle.std.proofs.lemmas.Bool.{cases_lt}
 use Rattle.plane.specs.declared.coordinates.Point.{Point}
-use Rattle.plane.specs.declared.coordinates.TheConstants.{MOST_POINTS}
-use Rattle.plane.specs.Geometry.{point, area}
+use Rattle.plane.specs.Geometry.{point}
 use Rattle.plane.specs.Accepted.{AreAccepted}
 use Rattle.plane.proofs.Area.{area_swap}
 use Rattle.plane.proofs.Outermost.{points_differ}
-use Rattle.star.specs.Turn.{TurnsBefore, IsBeforeInTurn, IsInDirection}
+use Rattle.star.specs.Turn.{TurnsBefore, IsBeforeInTurn}
 use Rattle.star.specs.Stars.{Seen, entry, around, AreInTurn, IsOrderly, StandsAt, IsFree, IsBetween}
 use Rattle.star.proofs.Turning.{not_both, before_or, before_on}
 
@@ -92,12 +91,12 @@ placed s q k accepted so hq apart free hk before not = (
         ]
 
 -- the place of a position after an insert at k
-data Place (k j : ℕ) : Type 0 where
+pub data Place (k j : ℕ) : Type 0 where
   below : j < k → Place k j
   here : j ≡ k → Place k j
   above : (i : ℕ) → k ≤ i → j ≡ i + 1 → Place k j
 
-place_of : (k j : ℕ) → Place k j
+pub place_of : (k j : ℕ) → Place k j
 place_of k j = elim (cases_lt j k) [ inl h ↦ below h | inr h ↦ elim (cases_lt k j) [ inl g ↦ above (j - 1) (omega arith) (omega arith) | inr g ↦ here (omega arith) ] ]
 
 pub orderly_inserted : (S : List Point) (c : ℕ) (list : List (ℕ × Bool)) (k q : ℕ) → AreAccepted S → IsOrderly S c list → q < length S → q ≢ c → k ≤ length list

@@ -1,5 +1,5 @@
 -- The star of a centre: its neighbours in turning order, each with a mark whether it is kept.
-use Rattle.std.specs.Prelude.{◌≡◌, ◌≢◌, ℕ, ◌+◌, ◌-◌, ◌<◌, ◌≤◌, Bool, true, false, if◌then◌else◌, nat_lt, List, [], length, insert, remove, slice_index_or, slice_set, Option, Some, None}
+use Rattle.std.specs.Prelude.{◌≡◌, ◌≢◌, ℕ, ◌+◌, ◌-◌, ◌<◌, ◌≤◌, Bool, true, false, if◌then◌else◌, nat_lt, List, length, insert, remove, slice_index_or, slice_set, Option, Some, None}
 use Rattle.plane.specs.declared.coordinates.Point.{Point}
 use Rattle.plane.specs.declared.coordinates.TheConstants.{MOST_POINTS}
 use Rattle.star.specs.Turn.{IsBeforeInTurn, IsInDirection}

@@ -69,6 +69,16 @@ fn put_in(points: &Points, star: &mut Star, q: u32) -> Result<(), Fail>
     Ok(())
 }
 
+fn put_all(points: &Points, star: &mut Star, list: &[u32]) -> Result<(), Fail>
+    requires points { points.now ≡ star.old.points }
+    ensures points { star.new.points ≡ star.old.points }
+{
+    for q in list {
+        put_in(points, star, *q)?;
+    }
+    Ok(())
+}
+
 // Turns the mark of a neighbour round.
 fn turn_mark(points: &Points, star: &mut Star, q: u32)
     requires points { points.now ≡ star.old.points }
@@ -80,6 +90,15 @@ fn turn_mark(points: &Points, star: &mut Star, q: u32)
         } else {
             star.keep_mark(points, q);
         }
+    }
+}
+
+fn turn_all(points: &Points, star: &mut Star, list: &[u32])
+    requires points { points.now ≡ star.old.points }
+    ensures points { star.new.points ≡ star.old.points }
+{
+    for q in list {
+        turn_mark(points, star, *q);
     }
 }
 
@@ -108,9 +127,7 @@ fn neighbours_stand_in_turning_order(rt: HostRuntime) -> Result<(), Fail> {
     let round = [5, 8, 7, 6, 3, 0, 1, 2];
     for order in [[0, 1, 2, 3, 5, 6, 7, 8], [5, 3, 7, 1, 8, 0, 6, 2], round] {
         let mut star = Star::make(rt.alloc(), &points, 4);
-        for q in order {
-            put_in(&points, &mut star, q)?;
-        }
+        put_all(&points, &mut star, &order)?;
         let list = listed(rt.alloc(), &star)?;
         let want = round.map(|q| (q, false));
         assert_eq!(rt; list.as_slice(), want.as_slice());
@@ -135,13 +152,9 @@ fn neighbours_stand_in_turning_order(rt: HostRuntime) -> Result<(), Fail> {
 fn marks_go_with_their_neighbours(rt: HostRuntime) -> Result<(), Fail> {
     let points = grid(rt.alloc())?;
     let mut star = Star::make(rt.alloc(), &points, 0);
-    for q in [7, 1, 3, 8, 5] {
-        put_in(&points, &mut star, q)?;
-    }
+    put_all(&points, &mut star, &[7, 1, 3, 8, 5])?;
     assert_eq!(rt; star.kept_next(&points, 1), None);
-    for q in [3, 5, 8, 5] {
-        turn_mark(&points, &mut star, q);
-    }
+    turn_all(&points, &mut star, &[3, 5, 8, 5]);
     take_out(&points, &mut star, 7);
     let same = star.copy(&points)?;
     let list = listed(rt.alloc(), &same)?;

@@ -1,7 +1,4 @@
-use Rattle.std.proofs.Common.{◌≡◌, ◌≢◌, ℕ, ◌<◌, List, length, arith}
-use Rattle.plane.specs.declared.coordinates.Point.{Point}
 use Rattle.plane.specs.Geometry.{point}
-use Rattle.plane.specs.Accepted.{AreAccepted}
 use Rattle.plane.proofs.Outermost.{points_differ}
 use Rattle.star.proofs.Turning.{decided_same, decided_other, same_bits, other_bits}
 use Rattle.star.proofs.turn.is_before.Goals as goal

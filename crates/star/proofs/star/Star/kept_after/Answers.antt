@@ -1,4 +1,4 @@
-use Rattle.std.proofs.Common.{◌≡◌, ◌<◌, ◌+◌, false, length, arith, subst}
+use Rattle.std.proofs.Common.{◌≡◌, false, length, arith, subst}
 use Rattle.star.specs.Stars.{entry}
 use Rattle.star.proofs.Listed.{all_round}
 use Rattle.star.proofs.star.Star.kept_after.Goals as goal

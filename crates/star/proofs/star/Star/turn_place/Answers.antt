@@ -1,7 +1,5 @@
-use Rattle.std.proofs.Common.{◌≡◌, ◌<◌, ◌+◌, ◌∙◌, length, arith, subst, sym, below_more, IsTrue, false, not}
+use Rattle.std.proofs.Common.{◌<◌, ◌∙◌, length, arith, subst, sym, below_more}
 use Rattle.std.proofs.lemmas.Bool.{false≢true}
-use Rattle.star.specs.Turn.{IsBeforeInTurn}
-use Rattle.star.specs.Stars.{entry}
 use Rattle.star.proofs.Listed.{placed}
 use Rattle.star.proofs.star.Star.turn_place.Goals as goal
 

@@ -1,5 +1,5 @@
 -- The neighbour after q in the star of p is the apex of p to q.
-use Rattle.std.proofs.Common.{◌≡◌, ◌≢◌, ℕ, ◌+◌, ◌<◌, ◌≤◌, List, length, ℤ, pos, neg_ℤ, ◌<ℤ◌, ◌≤ℤ◌, ◌⊎◌, inl, inr, arith, sym, ◌∙◌, ap, subst, refl, Option, Some, None}
+use Rattle.std.proofs.Common.{◌≡◌, ◌≢◌, ℕ, ◌+◌, ◌<◌, List, length, ℤ, pos, neg_ℤ, ◌<ℤ◌, ◌≤ℤ◌, ◌⊎◌, inl, inr, arith, sym, ◌∙◌, ap, subst, refl, Some, None}
 use Rattle.std.proofs.lemmas.Int.{ints}
 use Rattle.std.proofs.lemmas.Bool.{cases_lt}
 use Rattle.plane.specs.declared.coordinates.Point.{Point}
@@ -9,13 +9,13 @@ use Rattle.plane.proofs.Area.{area_cycle, area_swap, area_back}
 use Rattle.plane.proofs.Along.{no_area}
 use Rattle.plane.proofs.Signs.{negative_or}
 use Rattle.partition_defs.specs.Partition.{HasEnds, Joins}
-use Rattle.partition_defs.specs.Triangulation.{IsTriangulation, IsApex, HasLeft}
-use Rattle.star.specs.Stars.{Seen, StandsAt, IsNeighbour, IsNext, entry, around}
+use Rattle.partition_defs.specs.Triangulation.{IsTriangulation, IsApex}
+use Rattle.star.specs.Stars.{Seen, StandsAt, IsNext, entry, around}
 use Rattle.star.specs.StarOf.{IsStarOf}
 use Rattle.star.proofs.Cyclic.{IsAmid, next_or_amid, around_inside}
 use Rattle.subdivision.specs.State.{IsApexOrNone}
 use Rattle.subdivision.proofs.Lists.{contains_of}
-use Rattle.subdivision.proofs.Members.{joined, join_back}
+use Rattle.subdivision.proofs.Members.{joined}
 
 opposite_back : (y z : ℤ) → AreOpposite y z → AreOpposite z y
 opposite_back y z (inl h) = inr (h.1, h.0)

@@ -1,21 +1,21 @@
 -- How the stars grow by one segment, and why there is a place for it.
-use Rattle.std.proofs.Common.{◌≡◌, ◌≢◌, ℕ, ◌+◌, ◌<◌, ◌≤◌, Bool, true, false, List, [], ◌∷◌, ◌++◌, length, get_or, set, take, slice_index_or, ℤ, pos, ◌+ℤ◌, ◌-ℤ◌, ◌*ℤ◌, neg_ℤ, ◌<ℤ◌, ◌≤ℤ◌, ◌⊎◌, inl, inr, ◌↔◌, arith, sym, ◌∙◌, ap, subst, refl, get_or-set_other, get_or-set_same, length-set}
+use Rattle.std.proofs.Common.{◌≡◌, ◌≢◌, ℕ, ◌+◌, ◌<◌, Bool, true, List, [], ◌∷◌, ◌++◌, length, get_or, set, take, slice_index_or, ℤ, pos, ◌+ℤ◌, ◌-ℤ◌, ◌*ℤ◌, neg_ℤ, ◌<ℤ◌, ◌⊎◌, inl, inr, ◌↔◌, arith, sym, ◌∙◌, ap, subst, refl, get_or-set_other}
 use Rattle.std.proofs.lemmas.Int.{ints}
 use Rattle.std.proofs.lemmas.Bool.{cases_lt}
 use Rattle.std.proofs.lemmas.List.{get_or_default, get_or-take, length-take, get_or_append_left, get_or_push, take_more}
 use Rattle.std.proofs.Math.Seq.{take-append_seam}
 use Rattle.plane.specs.declared.coordinates.Point.{Point}
 use Rattle.plane.specs.declared.segment.Pair.{Pair}
-use Rattle.plane.specs.Geometry.{point, area, scalar, LiesBetween, IsBetween, IsClear, AreOpposite}
+use Rattle.plane.specs.Geometry.{point, area, scalar, LiesBetween, IsBetween, AreOpposite}
 use Rattle.plane.specs.Accepted.{AreAccepted}
 use Rattle.plane.proofs.Area.{area_back}
 use Rattle.plane.proofs.Along.{between_swap, one_between}
-use Rattle.plane.proofs.Signs.{opposite_steps, negative_or, positive_positive, positive_negative, negative_positive, zero_left, zero_right, difference_zero}
+use Rattle.plane.proofs.Signs.{opposite_steps, positive_positive, positive_negative, negative_positive, zero_left, zero_right}
 use Rattle.plane.proofs.Determinant.{neg_mul, mul_neg}
 use Rattle.plane.proofs.Outermost.{points_differ}
 use Rattle.partition_defs.specs.Partition.{HasEnds, Joins}
 use Rattle.partition_defs.specs.Triangulation.{IsTriangulation, AreDistinct}
-use Rattle.star.specs.Turn.{IsUpper, IsLower, AreInOneHalf, IsInDirection}
+use Rattle.star.specs.Turn.{AreInOneHalf, IsInDirection}
 use Rattle.star.specs.Stars.{Seen, IsStar, IsNeighbour, HasMark, SamePlace, Gains, Marks, IsFree, entry}
 use Rattle.star.specs.StarOf.{IsStarOf}
 use Rattle.star.proofs.Turning.{Up, up, down}
@@ -23,7 +23,7 @@ use Rattle.star.proofs.Changes.{gains_neighbour, gains_mark, marks_neighbour, ke
 use Rattle.subdivision.specs.State.{star_at, AreStarsOf}
 use Rattle.subdivision.specs.Joining.{Links, LinksEnds}
 use Rattle.subdivision.proofs.Lists.{pair_same, Has, has_of, contains_of, has_append, append_has}
-use Rattle.subdivision.proofs.Members.{joined, joins_of, join_back, marked_neighbour}
+use Rattle.subdivision.proofs.Members.{joined, joins_of, marked_neighbour}
 
 same_list_neighbour : (old mid : Seen) → mid.list ≡ old.list → (u : ℕ) → IsNeighbour mid u ↔ IsNeighbour old u
 same_list_neighbour old mid e u =

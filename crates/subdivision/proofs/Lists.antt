@@ -1,6 +1,6 @@
 -- Ascending lists of segments: all segments of n points are one, and two of the same segments are equal.
-use Rattle.std.proofs.Common.{◌≡◌, ◌≢◌, ℕ, zero, suc, ◌+◌, ◌<◌, ◌≤◌, Bool, true, false, cond, List, [], ◌∷◌, ◌++◌, length, get_or, filter, ◌⊎◌, inl, inr, arith, sym, ◌∙◌, ap, subst, refl}
-use Rattle.std.specs.List.{All, AllPairs, Contains, Any}
+use Rattle.std.proofs.Common.{◌≡◌, ℕ, zero, suc, ◌+◌, ◌<◌, ◌≤◌, Bool, true, List, [], ◌∷◌, ◌++◌, length, get_or, filter, ◌⊎◌, inl, inr, arith, sym, ◌∙◌, ap, subst, refl}
+use Rattle.std.specs.List.{Contains}
 use Rattle.std.proofs.lemmas.Bool.{cases_lt}
 use Rattle.std.proofs.lemmas.Bool.{cond_both}
 use Rattle.std.proofs.lemmas.List.Kept.{AllPairs-cons, AllPairs-filter}

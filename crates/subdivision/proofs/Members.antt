@@ -1,6 +1,6 @@
 -- What the stars of a triangulation tell of its segments.
-use Rattle.std.proofs.Common.{◌≡◌, ◌≢◌, ℕ, ◌+◌, ◌<◌, ◌≤◌, Bool, true, false, ◌&&◌, nat_eq, eqb, List, [], ◌∷◌, length, get_or, filter, ◌⊎◌, inl, inr, ◌↔◌, arith, sym, ◌∙◌, ap, subst, refl}
-use Rattle.std.specs.List.{Contains, Any, list_any}
+use Rattle.std.proofs.Common.{◌≡◌, ℕ, ◌<◌, Bool, true, false, ◌&&◌, nat_eq, List, length, filter, inl, inr, arith, sym, ◌∙◌, ap, subst, refl}
+use Rattle.std.specs.List.{Contains}
 use Rattle.std.proofs.lemmas.Bool.{false≢true}
 use Rattle.std.proofs.lemmas.Bool.Decides.{Decides-eqb}
 use Rattle.std.proofs.lemmas.List.{get_or_default}
@@ -8,12 +8,12 @@ use Rattle.std.proofs.lemmas.List.Folds.{Any-from_list_any, list_any_at}
 use Rattle.plane.specs.declared.coordinates.Point.{Point}
 use Rattle.plane.specs.declared.segment.Pair.{Pair}
 use Rattle.partition_defs.specs.Partition.{HasEnds, Joins}
-use Rattle.partition_defs.specs.Triangulation.{IsTriangulation, IsApex, HasLeft}
+use Rattle.partition_defs.specs.Triangulation.{IsTriangulation, IsApex}
 use Rattle.star.specs.Stars.{Seen, entry, IsNeighbour, HasMark}
 use Rattle.star.specs.StarOf.{IsStarOf}
 use Rattle.subdivision.specs.Ascending.{IsAscending}
 use Rattle.subdivision.specs.Every.{every_pair}
-use Rattle.subdivision.specs.State.{State, star_at, has, keeps, all_of, kept_of, AreAmong, AreStarsOf, AreOf, AreAgreed, IsSubdivision, AreSame}
+use Rattle.subdivision.specs.State.{State, star_at, has, keeps, all_of, kept_of, AreStarsOf, AreOf, AreAgreed, IsSubdivision, AreSame}
 use Rattle.subdivision.proofs.Lists.{pair_same, Has, has_of, contains_of, has_filter, filter_has, has_rows, rows_has, chosen_ascending, one_list, rises_of}
 
 -- the segment of a list with these ends
@@ -78,10 +78,10 @@ has_mark s w (k, h, at) =
 pub marked_neighbour : (s : Seen) (w : ℕ) (b : Bool) → HasMark s w b → IsNeighbour s w
 marked_neighbour s w b (k, h, at) = (k, (h, ap (λ (p : ℕ × Bool). p.0) at))
 
-chosen : (p : Pair → Bool) (n : ℕ) (e : Pair) → Has e (filter p (every_pair n)) → (e.hi < n) × (p e ≡ true)
+pub chosen : (p : Pair → Bool) (n : ℕ) (e : Pair) → Has e (filter p (every_pair n)) → (e.hi < n) × (p e ≡ true)
 chosen p n e h = let r = has_filter p (every_pair n) e h in let s = has_rows 0 n e r.0 in (omega (arith, s.1), r.1)
 
-choose : (p : Pair → Bool) (n : ℕ) (e : Pair) → e.hi < n → p e ≡ true → Has e (filter p (every_pair n))
+pub choose : (p : Pair → Bool) (n : ℕ) (e : Pair) → e.hi < n → p e ≡ true → Has e (filter p (every_pair n))
 choose p n e h t = filter_has p (every_pair n) e (rows_has 0 n e (omega arith) (omega arith)) t
 
 -- the stars tell the segments of the triangulation

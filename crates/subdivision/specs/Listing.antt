@@ -1,5 +1,5 @@
 -- Segments collected from the stars of their smaller ends.
-use Rattle.std.specs.Prelude.{◌≡◌, ◌≢◌, ℕ, ◌<◌, ◌↔◌, ◌⊎◌, Bool, true, if◌then◌else◌, List, length}
+use Rattle.std.specs.Prelude.{◌≡◌, ◌≢◌, ℕ, ◌+◌, ◌<◌, ◌↔◌, ◌⊎◌, Bool, true, if◌then◌else◌, List, [], ◌∷◌, ◌++◌, length, slice_index_or}
 use Rattle.std.specs.List.{AllPairs, Contains}
 use Rattle.plane.specs.declared.segment.Pair.{Pair}
 use Rattle.star.specs.Stars.{Seen, entry}
@@ -18,7 +18,7 @@ abbrev pub IsTidy : ℕ → Seen → Type 0
 IsTidy n s = ((i j : ℕ) → i < j → j < length s.list → (entry s.list i).0 ≢ (entry s.list j).0) × ((k : ℕ) → k < length s.list → (entry s.list k).0 < n)
 
 abbrev pub AreTidy : List Seen → Type 0
-AreTidy stars = (v : ℕ) → v < length stars → IsTidy (length stars) (star_at stars v)
+AreTidy stars = (v : ℕ) → v < length stars → ((star_at stars v).centre ≡ v) × IsTidy (length stars) (star_at stars v)
 
 -- a neighbour among the first k is picked
 abbrev pub IsPicked : Bool → Seen → (k w : ℕ) → Type 0
@@ -29,6 +29,11 @@ pub record HasRow (kept_only : Bool) (old new : List Pair) (v : ℕ) (s : Seen) 
   pub distinct : AllPairs (λ e f. e ≢ f) new
   pub members : (e : Pair) → Contains new e ↔ (Contains old e ⊎ ((e.lo ≡ v) × IsPicked kept_only s k e.hi))
 
+-- the segment from v to w has come in where it is wanted and w is larger
+abbrev pub Takes : (old new : List Pair) → (v w : ℕ) → Bool → Type 0
+Takes old new v w wanted =
+    ((v < w) × (wanted ≡ true) × ((p : Pair) × (p.lo ≡ v) × (p.hi ≡ w) × (new ≡ old ++ p ∷ []))) ⊎ (¬ ((v < w) × (wanted ≡ true)) × (new ≡ old))
+
 -- a list without repeats of the segments whose smaller end is below v
 pub record HasRows (kept_only : Bool) (stars : List Seen) (list : List Pair) (v : ℕ) : Type 0 where
   pub distinct : AllPairs (λ e f. e ≢ f) list
@@ -38,4 +43,4 @@ pub record HasRows (kept_only : Bool) (stars : List Seen) (list : List Pair) (v 
 pub record IsSortedFrom (old new : List Pair) : Type 0 where
   pub distinct : AllPairs (λ e f. e ≢ f) old → AllPairs (λ e f. e ≢ f) new
   pub members : (e : Pair) → Contains new e ↔ Contains old e
-  pub order : AllPairs (λ e f. ¬ ComesFirst f e) new
+  pub order : (k : ℕ) (d : Pair) → k + 1 < length new → ¬ ComesFirst (slice_index_or new (k + 1) d) (slice_index_or new k d)

@@ -1,9 +1,9 @@
 // Ascending lists of segments from the stars.
-ghost use Rattle.std.specs.Prelude.{◌≡◌, ◌≢◌, ◌<◌, ℕ, length, ◌^◌, IfOk, OnOk, true};
+ghost use Rattle.std.specs.Prelude.{◌≡◌, ◌≢◌, ◌<◌, ℕ, length, IfOk, OnOk, IsTrue, ◌↔◌, true};
 ghost use Rattle.std.specs.List.{AllPairs, Contains};
 ghost use Rattle.plane.specs.declared.segment.Pair.{Pair};
 ghost use Rattle.subdivision.specs.State.{star_at};
-ghost use Rattle.subdivision.specs.Listing.{picked_of, AreTidy, IsTidy, HasRow, HasRows, IsSortedFrom};
+ghost use Rattle.subdivision.specs.Listing.{picked_of, AreTidy, IsTidy, HasRow, HasRows, Takes, IsSortedFrom};
 
 use mcp_outside::NoMemory;
 use plane::Pair;
@@ -12,13 +12,12 @@ use std::alloc::Global;
 
 /// The segments that the stars of the smaller ends tell, ascending: all of them, or the kept ones alone.
 pub fn listed(alloc: Global, stars: &[Star], kept_only: bool) -> Result<Vec<Pair>, NoMemory>
-    requires short { length stars.now < 2 ^ 32 }
-    requires tidy { AreTidy stars.now }
+    requires { AreTidy stars.now }
     ensures { IfOk result (λ list. list.items ≡ picked_of kept_only stars.now) }
 {
     let mut list = Vec::new(alloc);
-    for (v, star) in stars.iter().enumerate() {
-        add_row(star, v as u32, kept_only, &mut list)?;
+    for v in 0..stars.len() {
+        add_row(&stars[v], kept_only, &mut list)?;
     }
     sort(&mut list)?;
     Ok(list)
@@ -31,18 +30,44 @@ fn sort(list: &mut Vec<Pair>) -> Result<(), NoMemory>
     Ok(list.sort()?)
 }
 
-// Adds the segments from v to its picked neighbours with a larger index.
-fn add_row(star: &Star, v: u32, kept_only: bool, list: &mut Vec<Pair>) -> Result<(), NoMemory>
+// Adds the segments from the centre to its picked neighbours with a larger index.
+fn add_row(star: &Star, kept_only: bool, list: &mut Vec<Pair>) -> Result<(), NoMemory>
     requires distinct { AllPairs (λ e f. e ≢ f) list.old.items }
-    requires none { (e : Pair) → Contains list.old.items e → e.lo ≢ v }
+    requires none { (e : Pair) → Contains list.old.items e → e.lo ≢ star.now.centre }
     requires tidy { (n : ℕ) × IsTidy n star.now }
-    ensures { OnOk result (HasRow kept_only list.old.items list.new.items v star.now (length star.now.list)) }
+    ensures { OnOk result (HasRow kept_only list.old.items list.new.items star.now.centre star.now (length star.now.list)) }
 {
     for k in 0..star.degree() {
         let (w, kept) = star.at(k);
-        if v < w && (kept || !kept_only) {
-            list.push(Pair::of(v, w))?;
-        }
+        add_one(star.centre(), w, is_wanted(kept, kept_only), list)?;
+    }
+    Ok(())
+}
+
+// Whether a neighbour with this mark is wanted.
+fn is_wanted(kept: bool, kept_only: bool) -> bool
+    ensures { IsTrue result ↔ (kept_only ≡ true → kept ≡ true) }
+{
+    kept || !kept_only
+}
+
+// Adds the segment from v to w where it is wanted and w is larger.
+fn add_one(v: u32, w: u32, wanted: bool, list: &mut Vec<Pair>) -> Result<(), NoMemory>
+    ensures { OnOk result (Takes list.old.items list.new.items v w wanted) }
+{
+    if v < w {
+        add_wanted(v, w, wanted, list)
+    } else {
+        Ok(())
+    }
+}
+
+fn add_wanted(v: u32, w: u32, wanted: bool, list: &mut Vec<Pair>) -> Result<(), NoMemory>
+    requires { v < w }
+    ensures { OnOk result (Takes list.old.items list.new.items v w wanted) }
+{
+    if wanted {
+        list.push(Pair::of(v, w))?;
     }
     Ok(())
 }

@@ -1,6 +1,5 @@
-use Rattle.std.proofs.Common.{ap, length, ◌∙◌, ◌++◌, ◌∷◌, [], arith}
+use Rattle.std.proofs.Common.{ap, length, arith}
 use Rattle.std.proofs.lemmas.List.{length_push}
-use Rattle.star.specs.Stars.{Seen}
 use Rattle.subdivision.proofs.Growing.{bare_more}
 use Rattle.subdivision.proofs.joining.bare_stars.Goals as goal
 

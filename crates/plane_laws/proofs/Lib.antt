@@ -1,0 +1,4 @@
+pub mod Products
+pub mod Steps
+pub mod Orientations
+pub mod Between

@@ -1,0 +1,11 @@
+//! Laws of points in the plane.
+#![tactic(auto)]
+
+ghost use Rattle.std.specs.Prelude.{◌≡◌};
+
+/// One.
+pub fn one() -> u32
+    ensures { result ≡ 1 }
+{
+    1
+}

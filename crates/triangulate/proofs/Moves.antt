@@ -1,0 +1,210 @@
+-- The other moves of the sweep: its two chains changed, the first joining of a point, and the end of joining it.
+use Rattle.std.proofs.Common.{◌≡◌, ◌≢◌, ℕ, ℤ, pos, neg_ℤ, ◌<◌, ◌⊎◌, inl, inr, sym, ◌∙◌, ap, refl, subst, subst₂, List, [], ◌∷◌, arith}
+use Rattle.std.specs.Prelude.{◌<ℤ◌, ◌≤ℤ◌}
+use Rattle.std.proofs.lemmas.Int.{ints}
+use Rattle.triangulate.proofs.Field.{Setting, Laws, AreTurned, turned_back, by_place, not_both, up_to_before, before_up_to, up_to_not_before, flip, zero_ends, zero_first, zero_last}
+use Rattle.triangulate.proofs.Turns.{Spine, beyond_side, opposite_turned, same_above}
+use Rattle.triangulate.proofs.Sides.{settled_before, settled_side}
+use Rattle.triangulate.proofs.State.{Adds}
+use Rattle.triangulate.proofs.Step.{at, side_more, chain_more, reach_more, apex_more, pairs_add, sweeps_new, weaken, at_zero, met_more}
+use Rattle.triangulate.specs.Sides.{UpTo, AllLeft, Clear, Beyond, Cross}
+use Rattle.triangulate.specs.State.{Links, Side, Covered, Chain, Reach, Sweeps, Apex, Pairs, Met, From, Joining, Whole, Settled}
+
+zero_of_turned : (x y : ℤ) → y ≡ neg_ℤ x → y ≡ pos 0 → x ≡ pos 0
+zero_of_turned x y e h = omega (arith, ints)
+
+back_turned : (x y : ℤ) → y ≡ neg_ℤ x → x ≡ neg_ℤ y
+back_turned x y e = omega (arith, ints)
+
+cross_turned : (o w : ℕ → ℕ → ℕ → ℤ) → AreTurned o w → (a b c d : ℕ) → Cross w a b c d → Cross o a b c d
+cross_turned o w tr a b c d h =
+    (opposite_turned (w a b c) (w a b d) (o a b c) (o a b d) (back_turned (o a b c) (w a b c) (tr a b c)) (back_turned (o a b d) (w a b d) (tr a b d)) h.0,
+     opposite_turned (w c d a) (w c d b) (o c d a) (o c d b) (back_turned (o c d a) (w c d a) (tr c d a)) (back_turned (o c d b) (w c d b) (tr c d b)) h.1)
+
+sweeps_turned : (E : Setting) (o w : ℕ → ℕ → ℕ → ℤ) → AreTurned o w → (p q : ℕ) → Sweeps E.n E.B o p q → Sweeps E.n E.B w p q
+sweeps_turned E o w tr p q h = record {
+    clear = λ s sn hp hq e. h.clear s sn hp hq (zero_of_turned (o p s q) (w p s q) (tr p s q) e);
+    alone = λ k l kn ln hk hl c. h.alone k l kn ln hk hl (cross_turned o w tr p q k l c)
+}
+
+pairs_turned : (E : Setting) (o w : ℕ → ℕ → ℕ → ℤ) → AreTurned o w → (J : ℕ → ℕ → Type 0) (z : ℕ) → Pairs E.n E.B o J z → Pairs E.n E.B w J z
+pairs_turned E o w tr J z h = record {
+    in_first = h.in_first; up_to = h.up_to; back = h.back; differ = h.differ; sweeps = λ p q j k. sweeps_turned E o w tr p q (h.sweeps p q j k) }
+
+both_turned : (x y v : ℤ) → v ≡ neg_ℤ y → y ≡ neg_ℤ x → v ≡ x
+both_turned x y v e f = omega (arith, ints)
+
+above_same : (x y : ℤ) → y ≡ x → pos 0 <ℤ x → pos 0 <ℤ y
+above_same x y e h = omega (arith, ints)
+
+weak_same : (x y : ℤ) → y ≡ x → pos 0 ≤ℤ y → pos 0 ≤ℤ x
+weak_same x y e h = omega (arith, ints)
+
+-- the sign of three points with the first two changed, turned
+swapped : (E : Setting) (o w : ℕ → ℕ → ℕ → ℤ) → Laws E o → AreTurned o w → (p q s : ℕ) → w p q s ≡ o q p s
+swapped E o w L tr p q s = both_turned (o q p s) (o p q s) (w p q s) (tr p q s) (L.swap q p s)
+
+apex_turned : (E : Setting) (o w : ℕ → ℕ → ℕ → ℤ) → Laws E o → AreTurned o w → (J : ℕ → ℕ → Type 0) (p q : ℕ) → Apex E.n E.B o J q p → Apex E.n E.B w J p q
+apex_turned E o w L tr J p q a = record {
+    r = a.r; r_in = a.r_in; first = a.second; second = a.first;
+    left = above_same (o q p a.r) (w p q a.r) (swapped E o w L tr p q a.r) a.left;
+    empty = record { none = λ s sn hp hq hr g. a.empty.none s sn hq hp hr
+        (weak_same (o q p s) (w p q s) (swapped E o w L tr p q s) g.0,
+         weak_same (o p a.r s) (w a.r p s) (swapped E o w L tr a.r p s) g.2,
+         weak_same (o a.r q s) (w q a.r s) (swapped E o w L tr q a.r s) g.1) }
+}
+
+-- the two chains change places where the plane is turned over
+pub turned : (E : Setting) (o w : ℕ → ℕ → ℕ → ℤ) → Laws E o → AreTurned o w → (J : ℕ → ℕ → Type 0) (t : ℕ) (r : List ℕ) (t2 : ℕ) (r2 : List ℕ) (z last : ℕ)
+    → Joining E.n E.B o w J t r t2 r2 z last → Joining E.n E.B w o J t2 r2 t r z last
+turned E o w L tr J t r t2 r2 z last m = record {
+    z_in = m.z_in; last_in = m.last_in; last_before = m.last_before; last_next = m.last_next;
+    lower = m.upper; upper = m.lower;
+    pairs = pairs_turned E o w tr J z m.pairs;
+    met = m.met;
+    apex = λ p q j. elim (m.apex q p (m.pairs.back p q j)) [
+        inl x ↦ inl (apex_turned E o w L tr J p q x)
+      | inr x ↦ elim x [ inl y ↦ inr (inr y) | inr y ↦ inr (inl y) ] ];
+    fresh = λ s j. elim (m.fresh s j) [ inl x ↦ inr x | inr x ↦ inl x ]
+}
+
+clash : (x y : ℤ) → y ≡ neg_ℤ x → pos 0 <ℤ x → pos 0 ≤ℤ y → ⊥
+clash x y e g h = omega (arith, ints)
+
+-- a point that the new one is still to be joined to isn't joined to it yet
+pub unjoined : (E : Setting) (o w : ℕ → ℕ → ℕ → ℤ) → Laws E o → AreTurned o w → (J : ℕ → ℕ → Type 0) (b a : ℕ) (r : List ℕ) (t2 : ℕ) (r2 : List ℕ) (z last : ℕ)
+    → Joining E.n E.B o w J b (a ∷ r) t2 r2 z last → o a b z <ℤ pos 0 → ¬ J a z
+unjoined E o w L tr J b a r t2 r2 z last m h j =
+    let s : Side E.n E.B o J (λ s. E.B s z) a b = m.lower.chain.sides a b (inl (refl, refl)) in
+    let far : Beyond E.n E.B o a z = beyond_side E o L a b z s.b_in s.before s.b_seen s.left h in
+    let hal : E.B a last = before_up_to E a b last s.before (m.last_next b s.b_in s.b_seen) in
+    elim (m.fresh a j) [
+        inl f ↦ up_to_not_before E b a f.from s.before
+      | inr f ↦ clash (o a z last) (w a z last) (tr a z last) (far last m.last_in hal m.last_before) f.side ]
+
+narrower : (E : Setting) (o : ℕ → ℕ → ℕ → ℤ) (J : ℕ → ℕ → Type 0) (Q R : ℕ → Type 0) (t : ℕ) (r : List ℕ) → ((s : ℕ) → s < E.n → R s → Q s) → ((s : ℕ) → Q s → R s)
+    → Chain E.n E.B o J Q t r → Chain E.n E.B o J R t r
+narrower E o J Q R t r f g c = record {
+    sides = λ a b k. (let s : Side E.n E.B o J Q a b = c.sides a b k in
+        record { a_in = s.a_in; b_in = s.b_in; before = s.before; b_seen = g b s.b_seen; joined = s.joined; left = λ u un h. s.left u un (f u un h); clear = s.clear });
+    covers = c.covers
+}
+
+start_reach : (E : Setting) (o : ℕ → ℕ → ℕ → ℤ) (J J2 : ℕ → ℕ → Type 0) (r : List ℕ) (z last : ℕ) → last < E.n → E.B last z
+    → ((s : ℕ) → s < E.n → E.B s z → UpTo E.B s last) → Adds J J2 last z → Chain E.n E.B o J (λ s. UpTo E.B s last) last r → Reach E.n E.B o J2 last r z
+start_reach E o J J2 r z last ln hlz next add c = record {
+    chain = chain_more E o J J2 (λ s. E.B s z) last r add.old
+        (narrower E o J (λ s. UpTo E.B s last) (λ s. E.B s z) last r next (λ s h. up_to_before E s last z h hlz) c);
+    top_in = ln; top_before = hlz; joined = add.new;
+    beyond = λ s sn h g. up_to_not_before E s last (next s sn g) h
+}
+
+pairs_later : (E : Setting) (o : ℕ → ℕ → ℕ → ℤ) (J : ℕ → ℕ → Type 0) (z last : ℕ) → E.B last z → Pairs E.n E.B o J last → Pairs E.n E.B o J z
+pairs_later E o J z last h p = record {
+    in_first = p.in_first; up_to = λ a b j. inr (up_to_before E a last z (p.up_to a b j) h); back = p.back; differ = p.differ; sweeps = p.sweeps }
+
+start_met : (E : Setting) (J J2 : ℕ → ℕ → Type 0) (z last : ℕ) → Adds J J2 last z → Met E.n E.B J last → ((s : ℕ) → s < E.n → E.B s z → UpTo E.B s last) → Met E.n E.B J2 z
+start_met E J J2 z last add old next s u sn (inl e) un hu = (last, at (λ x y. J2 x last) z z s z e refl add.back)
+start_met E J J2 z last add old next s u sn (inr h) un hu = met_more E J J2 add.old s (old s u sn (next s sn h) un hu)
+
+-- the new point is joined to the last one
+pub start : (E : Setting) (o w : ℕ → ℕ → ℕ → ℤ) → Laws E o → Laws E w → (J J2 : ℕ → ℕ → Type 0) (r r2 : List ℕ) (z last : ℕ)
+    → Whole E.n E.B o w J r r2 last → z < E.n → E.B last z → ((s : ℕ) → s < E.n → E.B s z → UpTo E.B s last) → Adds J J2 last z → Joining E.n E.B o w J2 last r last r2 z last
+start E o w L M J J2 r r2 z last m zn hlz next add =
+    let low : Reach E.n E.B o J2 last r z = start_reach E o J J2 r z last m.z_in hlz next add m.lower in
+    record {
+        z_in = zn; last_in = m.z_in; last_before = hlz; last_next = next;
+        lower = low;
+        upper = start_reach E w J J2 r2 z last m.z_in hlz next add m.upper;
+        pairs = pairs_add E o J J2 last z m.z_in zn hlz add
+            (sweeps_new E o L last z m.z_in zn hlz low.beyond (λ k l kn ln hk hl g. up_to_not_before E l last (next l ln g) hl))
+            (pairs_later E o J z last hlz m.pairs);
+        met = λ s u sn hs un hu. start_met E J J2 z last add m.met next s u sn hs un hu;
+        apex = λ p q j. elim (add.only p q j) [
+            inl k ↦ elim (m.apex p q k) [
+                inl x ↦ inl (apex_more E o J J2 add.old p q x)
+              | inr x ↦ elim x [ inl y ↦ inr (inl (inr y)) | inr y ↦ inr (inr (inr y)) ] ]
+          | inr k ↦ elim k [
+                inl e ↦ inr (inr (inl (e.0, e.1)))
+              | inr e ↦ inr (inl (inl (e.1, e.0))) ] ];
+        fresh = λ s j. elim (add.only s z j) [
+            inl k ↦ up_to_not_before E z last (m.pairs.up_to z s (m.pairs.back s z k)) hlz
+          | inr k ↦ elim k [
+                inl e ↦ inl (at (λ x y. From E.B o last x z last) last z s z e.0 refl (record { from = inl refl; side = at_zero (o last z last) (zero_ends E o L last z) }))
+              | inr e ↦ absurd (E.irrefl z (subst (λ x. E.B x z) (sym e.1) hlz)) ] ]
+    }
+
+pub link_below : (E : Setting) (t : ℕ) (r : List ℕ) → ((a b : ℕ) → Links t r a b → E.B a b) → (p q : ℕ) → Links t r p q → UpTo E.B q t
+link_below E t [] f p q k = elim k [ ]
+link_below E t (s ∷ r) f p q (inl e) = inl e.1
+link_below E t (s ∷ r) f p q (inr k) = inr (up_to_before E q s t (link_below E s r (λ a b l. f a b (inr l)) p q k) (f s t (inl (refl, refl))))
+
+-- the points before the last of the chain are left of the closing side
+closing : (E : Setting) (o : ℕ → ℕ → ℕ → ℤ) → Laws E o → (J : ℕ → ℕ → Type 0) (t : ℕ) (r : List ℕ) (z : ℕ) → Reach E.n E.B o J t r z → Settled o t r z
+    → (s : ℕ) → s < E.n → E.B s t → pos 0 ≤ℤ o t z s
+closing E o L J t [] z c h s sn hst = elim (c.chain.covers s sn hst).link [ ]
+closing E o L J t (a ∷ r) z c h s sn hst =
+    let k : Side E.n E.B o J (λ s. E.B s z) a t = c.chain.sides a t (inl (refl, refl)) in
+    settled_before E o L a t z s k.a_in sn k.before c.top_before k.left h hst
+
+closing_left : (E : Setting) (o : ℕ → ℕ → ℕ → ℤ) → Laws E o → (J : ℕ → ℕ → Type 0) (t : ℕ) (r : List ℕ) (z : ℕ) → z < E.n → Reach E.n E.B o J t r z → Settled o t r z
+    → AllLeft E.n E.B o (λ s. UpTo E.B s z) t z
+closing_left E o L J t r z zn c h s sn (inl e) = subst (λ x. pos 0 ≤ℤ o t z x) (sym e) (at_zero (o t z z) (zero_last E o L t z))
+closing_left E o L J t r z zn c h s sn (inr g) =
+    by_place E s t sn c.top_in
+        (λ p. closing E o L J t r z c h s sn p)
+        (λ e. subst (λ x. pos 0 ≤ℤ o t z x) (sym e) (at_zero (o t z t) (zero_ends E o L t z)))
+        (λ p. weaken (o t z s) (c.beyond s sn p g))
+
+older_left : (E : Setting) (o : ℕ → ℕ → ℕ → ℤ) → Laws E o → (J : ℕ → ℕ → Type 0) (t : ℕ) (r : List ℕ) (z : ℕ) → Reach E.n E.B o J t r z → Settled o t r z
+    → (p q : ℕ) → Links t r p q → pos 0 ≤ℤ o p q z
+older_left E o L J t [] z c h p q k = elim k [ ]
+older_left E o L J t (a ∷ r) z c h p q (inl e) = at (λ x y. pos 0 ≤ℤ o x y z) a t p q e.0 e.1 h
+older_left E o L J t (a ∷ r) z c h p q (inr k) =
+    let s : Side E.n E.B o J (λ s. E.B s z) p q = c.chain.sides p q (inr k) in
+    let first : Side E.n E.B o J (λ s. E.B s z) a t = c.chain.sides a t (inl (refl, refl)) in
+    let hqt : E.B q t = up_to_before E q a t (link_below E a r (λ x y l. (let u : Side E.n E.B o J (λ s. E.B s z) x y = c.chain.sides x y (inr l) in u.before)) p q k) first.before in
+    settled_side E o L p q t z s.before hqt c.top_before (s.left t c.top_in c.top_before) (closing E o L J t (a ∷ r) z c h q s.b_in hqt)
+
+older_at : (E : Setting) (o : ℕ → ℕ → ℕ → ℤ) (J : ℕ → ℕ → Type 0) (z p q : ℕ) → Side E.n E.B o J (λ s. E.B s z) p q → pos 0 ≤ℤ o p q z → AllLeft E.n E.B o (λ s. UpTo E.B s z) p q
+older_at E o J z p q s h u un (inl e) = subst (λ x. pos 0 ≤ℤ o p q x) (sym e) h
+older_at E o J z p q s h u un (inr g) = s.left u un g
+
+-- a chain that the new point closes
+pub closed : (E : Setting) (o : ℕ → ℕ → ℕ → ℤ) → Laws E o → (J : ℕ → ℕ → Type 0) (t : ℕ) (r : List ℕ) (z : ℕ) → z < E.n → Reach E.n E.B o J t r z → Settled o t r z
+    → Clear E.n E.B o t z → Chain E.n E.B o J (λ s. UpTo E.B s z) z (t ∷ r)
+closed E o L J t r z zn c h clear = record {
+    sides = λ p q k. elim k [
+        inl e ↦ at (λ x y. Side E.n E.B o J (λ s. UpTo E.B s z) x y) t z p q e.0 e.1
+            (record { a_in = c.top_in; b_in = zn; before = c.top_before; b_seen = inl refl; joined = c.joined; left = closing_left E o L J t r z zn c h; clear = clear })
+      | inr l ↦ (let s : Side E.n E.B o J (λ s. E.B s z) p q = c.chain.sides p q l in
+            record { a_in = s.a_in; b_in = s.b_in; before = s.before; b_seen = inr s.b_seen; joined = s.joined;
+                left = λ u un g. older_at E o J z p q s (older_left E o L J t r z c h p q l) u un g; clear = s.clear }) ];
+    covers = λ i iN hiz. by_place E i t iN c.top_in
+        (λ p. (let k : Covered E.B t r i = c.chain.covers i iN p in record { a = k.a; b = k.b; link = inr k.link; from = k.from; before = k.before }))
+        (λ e. record { a = t; b = z; link = inl (refl, refl); from = inl (sym e); before = hiz })
+        (λ p. record { a = t; b = z; link = inl (refl, refl); from = inr p; before = hiz })
+}
+
+-- the new point is joined to all the points that it sees
+pub finish : (E : Setting) (o w : ℕ → ℕ → ℕ → ℤ) → Laws E o → Laws E w → AreTurned o w → (J : ℕ → ℕ → Type 0) (t : ℕ) (r : List ℕ) (t2 : ℕ) (r2 : List ℕ) (z last : ℕ)
+    → Joining E.n E.B o w J t r t2 r2 z last → Settled o t r z → Settled w t2 r2 z → Whole E.n E.B o w J (t ∷ r) (t2 ∷ r2) z
+finish E o w L M tr J t r t2 r2 z last m h h2 = record {
+    z_in = m.z_in;
+    lower = closed E o L J t r z m.z_in m.lower h (m.pairs.sweeps t z m.lower.joined m.lower.top_before).clear;
+    upper = closed E w M J t2 r2 z m.z_in m.upper h2 (sweeps_turned E o w tr t2 z (m.pairs.sweeps t2 z m.upper.joined m.upper.top_before)).clear;
+    pairs = m.pairs;
+    met = m.met;
+    apex = m.apex
+}
+
+-- the first point alone
+pub first : (E : Setting) (o w : ℕ → ℕ → ℕ → ℤ) (J : ℕ → ℕ → Type 0) (z : ℕ) → z < E.n → ((s : ℕ) → s < E.n → ¬ E.B s z) → ((p q : ℕ) → ¬ J p q) → Whole E.n E.B o w J [] [] z
+first E o w J z zn least none = record {
+    z_in = zn;
+    lower = record { sides = λ a b k. elim k [ ]; covers = λ i iN h. absurd (least i iN h) };
+    upper = record { sides = λ a b k. elim k [ ]; covers = λ i iN h. absurd (least i iN h) };
+    pairs = record { in_first = λ p q j. absurd (none p q j); up_to = λ p q j. absurd (none p q j); back = λ p q j. absurd (none p q j); differ = λ p q j. absurd (none p q j); sweeps = λ p q j h. absurd (none p q j) };
+    met = λ s u sn hs un hu. absurd (least u un (before_up_to E u s z hu hs));
+    apex = λ p q j. absurd (none p q j)
+}

@@ -19,3 +19,6 @@ pub use refusals::{BundleFault, Refusal, Unread};
 pub use running::{MOST_INPUT, run};
 pub use status::{Status, Verdict};
 pub use words::{Command, read_words};
+
+#[cfg(test)]
+mod tests;

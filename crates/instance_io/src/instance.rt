@@ -1,38 +1,114 @@
-// The instance of a value and of a text, and its text.
-ghost use Rattle.std.specs.Prelude.{◌≡◌, map, IfOk};
-ghost use Rattle.serde_json.specs.View.{view};
-ghost use Rattle.text_defs.specs.Instances.{instance_in, instance_from};
-ghost use Rattle.text_defs.specs.Texts.{instance_text};
-ghost use Rattle.instance_io.specs.Refusal.{IsRead, coordinates};
+// The instance of a value and of a text.
+ghost use Rattle.std.specs.Prelude.{◌≡◌, ◌<◌, ◌^◌, map, vec_len, option_map, option_and_then, Ok, IfOk, MatchResult};
+ghost use Rattle.serde_json.specs.View.{view, items_view};
+ghost use Rattle.serde_json.specs.Find.{get, as_str};
+ghost use Rattle.text_defs.specs.Steps.{array_at};
+ghost use Rattle.text_defs.specs.Instances.{name_in, points_in, instance_in, instance_from};
+ghost use Rattle.instance_io.specs.Refusal.{IsRead, IsExact, coordinates};
+ghost use Rattle.instance_io.specs.Told.{Tells, IsLongName, error};
 
 use crate::instances::{Instance, InstanceFault};
+use crate::names::Name;
+use crate::points::points_of;
 use crate::reading::read_value;
-use mcp_outside::NoMemory;
+use plane::{Point, Points};
 use serde_json::Value;
 use std::alloc::Global;
 
 /// The instance that a value is, or its first fault, in the order in which the faults stand in `InstanceFault`.
 /// Other keys are ignored. (This project's own, after the challenge's files.)
 pub fn instance_of(alloc: Global, value: &Value) -> Result<Instance, InstanceFault>
-    ensures { IsRead (instance_in (view value.now)) result }
+    ensures answer { IsRead (instance_in (view value.now)) result }
+    ensures exact { IsExact (instance_in (view value.now)) result }
 {
-    Err(InstanceFault::NoMemory)
+    let name = match name_of(alloc, value) {
+        Ok(name) => name,
+        Err(fault) => return Err(fault),
+    };
+    let list = match points_in(alloc, value) {
+        Ok(list) => list,
+        Err(fault) => return Err(fault),
+    };
+    match Points::make(list) {
+        Ok(points) => Ok(Instance { name, points }),
+        Err(bad) => Err(InstanceFault::Bad(bad)),
+    }
+}
+
+const MOST_NAME_BYTES: usize = 1_000;
+
+// The name of an instance that a value is, or its fault.
+fn name_of(alloc: Global, value: &Value) -> Result<Name, InstanceFault>
+    ensures { MatchResult result (λ name. name_in (view value.now) ≡ Ok name)
+        (λ fault. Tells fault (error (name_in (view value.now)))) }
+{
+    let Some(text) = text_at(value, "name") else {
+        return Err(InstanceFault::NoName);
+    };
+    if text.len() > MOST_NAME_BYTES {
+        return Err(long_name(text.len()));
+    }
+    match String::from_str(alloc, text) {
+        Ok(text) => Ok(Name::make(text)),
+        Err(_) => Err(InstanceFault::NoMemory),
+    }
+}
+
+// The text under a key.
+fn text_at<'v>(value: &'v Value, key: &str) -> Option<&'v str>
+    ensures { option_map (λ s. s.now) result ≡ option_and_then as_str (get key.now (view value.now)) }
+{
+    match value.get(key) {
+        Some(found) => found.as_str(),
+        None => None,
+    }
+}
+
+// The fault of a name of this length; a length past 32 bits is taken as a want of memory.
+fn long_name(length: usize) -> InstanceFault
+    ensures { IsLongName length result }
+{
+    match u32::try_from(length) {
+        Ok(length) => InstanceFault::LongName(length),
+        Err(_) => InstanceFault::NoMemory,
+    }
+}
+
+// The points of an instance that a value is, or the first fault of its items.
+fn points_in(alloc: Global, value: &Value) -> Result<Vec<Point>, InstanceFault>
+    ensures short { IfOk result (λ points. vec_len points < 2 ^ 32) }
+    ensures answer { MatchResult result (λ points. points_in (view value.now) ≡ Ok (map coordinates points.items))
+        (λ fault. Tells fault (error (points_in (view value.now)))) }
+{
+    let Some(items) = array_at(value, "points") else {
+        return Err(InstanceFault::NoPoints);
+    };
+    if items.len() > u32::MAX as usize {
+        return Err(InstanceFault::NoMemory);
+    }
+    points_of(alloc, items)
+}
+
+/// The array under a key.
+pub fn array_at<'v>(value: &'v Value, key: &str) -> Option<&'v [Value]>
+    ensures { option_map (λ items. items_view items.now) result ≡ array_at key.now (view value.now) }
+{
+    match value.get(key) {
+        Some(found) => match found.as_array() {
+            Some(items) => Some(items.as_slice()),
+            None => None,
+        },
+        None => None,
+    }
 }
 
 /// The instance that a text is, or its first fault, in the order in which the faults stand in `InstanceFault`.
 pub fn read_instance(alloc: Global, bytes: &[u8]) -> Result<Instance, InstanceFault>
-    ensures { IsRead (instance_from bytes.now) result }
+    ensures answer { IsRead (instance_from bytes.now) result }
+    ensures exact { IsExact (instance_from bytes.now) result }
 {
     match read_value(alloc, bytes) {
         Ok(value) => instance_of(alloc, &value),
         Err(fault) => Err(fault),
     }
-}
-
-/// The text of an instance: one line without its end, with the points by index.
-pub fn write_instance(alloc: Global, instance: &Instance) -> Result<Vec<u8>, NoMemory>
-    ensures { IfOk result (λ text. text.items
-        ≡ instance_text instance.now.name (map coordinates instance.now.points)) }
-{
-    Err(NoMemory)
 }

@@ -1,9 +1,11 @@
-use crate::{InstanceFault, plain_numbers, read_value, whole};
+use crate::{InstanceFault, plain_numbers, read_instance, read_value, whole, write_instance};
+use mcp_outside::NoMemory;
+use plane::BadPoints;
 use serde_json::Value;
 use std::alloc::AllocError;
 
 #[test]
-fn numbers_become_whole(rt: HostRuntime) -> Result<(), AllocError> {
+fn numbers_become_whole(rt: HostRuntime) -> Result<(), NoMemory> {
     let table: [(&[u8], &[u8]); 14] = [
         (b"12.0", b"12"),
         (b"-0", b"0"),
@@ -116,4 +118,165 @@ fn values_give_whole_numbers(rt: HostRuntime) {
         assert_eq!(rt; found, want);
     }
     assert!(rt; whole(&Value::Null).is_none());
+}
+
+// What is written for the instance that a text is, or its fault.
+fn written(rt: &HostRuntime, text: &[u8]) -> Result<Vec<u8>, InstanceFault> {
+    match read_instance(rt.alloc(), text) {
+        Ok(instance) => match write_instance(rt.alloc(), &instance) {
+            Ok(bytes) => Ok(bytes),
+            Err(_) => Err(InstanceFault::NoMemory),
+        },
+        Err(fault) => Err(fault),
+    }
+}
+
+#[test]
+fn instances_are_read_and_written(rt: HostRuntime) {
+    let table: [(&[u8], &[u8]); 5] = [
+        (
+            b"{\"name\":\"w\",\"points\":[{\"x\":0,\"y\":0},{\"x\":12,\"y\":12.0},{\"x\":0,\"y\":5}]}",
+            b"{\"name\":\"w\",\"points\":[{\"i\":0,\"x\":0,\"y\":0},{\"i\":1,\"x\":12,\"y\":12},{\"i\":2,\"x\":0,\"y\":5}]}",
+        ),
+        (
+            b"{\"name\":\"w\",\"points\":[{\"x\":0,\"y\":0},{\"x\":12,\"y\":-0},{\"x\":0,\"y\":\"5\"}]}",
+            b"{\"name\":\"w\",\"points\":[{\"i\":0,\"x\":0,\"y\":0},{\"i\":1,\"x\":12,\"y\":0},{\"i\":2,\"x\":0,\"y\":5}]}",
+        ),
+        (
+            b"{\"type\":\"Instance\",\"points\":[{\"i\":2,\"x\":0,\"y\":5},{\"i\":\"0\",\"x\":0,\"y\":0},{\"i\":1.0,\"x\":12,\"y\":0}],\"name\":\"a\\\"b\"}",
+            b"{\"name\":\"a\\\"b\",\"points\":[{\"i\":0,\"x\":0,\"y\":0},{\"i\":1,\"x\":12,\"y\":0},{\"i\":2,\"x\":0,\"y\":5}]}",
+        ),
+        (
+            b"{\"name\":\"\",\"points\":[{\"x\":-1073741823,\"y\":-1073741823},{\"x\":1073741823,\"y\":-1073741823},{\"x\":-1073741823,\"y\":1073741823}]}",
+            b"{\"name\":\"\",\"points\":[{\"i\":0,\"x\":-1073741823,\"y\":-1073741823},{\"i\":1,\"x\":1073741823,\"y\":-1073741823},{\"i\":2,\"x\":-1073741823,\"y\":1073741823}]}",
+        ),
+        (
+            b" {\"name\":\"1.0\",\"points\":[{\"x\":0,\"y\":0,\"z\":[1e3]},{\"x\":1,\"y\":0},{\"x\":0,\"y\":1}]} ",
+            b"{\"name\":\"1.0\",\"points\":[{\"i\":0,\"x\":0,\"y\":0},{\"i\":1,\"x\":1,\"y\":0},{\"i\":2,\"x\":0,\"y\":1}]}",
+        ),
+    ];
+    for (text, want) in table {
+        let same = match written(&rt, text) {
+            Ok(bytes) => bytes.as_slice() == want,
+            Err(_) => false,
+        };
+        assert!(rt; same, "an instance was read or written otherwise");
+    }
+}
+
+#[test]
+fn faults_have_their_places(rt: HostRuntime) {
+    let table: [(&[u8], InstanceFault); 23] = [
+        (b"", InstanceFault::NotJson),
+        (b"[]", InstanceFault::NoName),
+        (b"{\"name\":1,\"points\":[]}", InstanceFault::NoName),
+        (b"{\"name\":\"\"}", InstanceFault::NoPoints),
+        (b"{\"name\":\"\",\"points\":{}}", InstanceFault::NoPoints),
+        (
+            b"{\"name\":\"\",\"points\":[{\"x\":1,\"y\":2},{\"x\":1}]}",
+            InstanceFault::BadPoint(1),
+        ),
+        (
+            b"{\"name\":\"\",\"points\":[{\"x\":1,\"y\":2},7,{\"x\":1,\"y\":null}]}",
+            InstanceFault::BadPoint(1),
+        ),
+        (
+            b"{\"name\":\"\",\"points\":[{\"x\":1,\"y\":null},7]}",
+            InstanceFault::NotWhole(0),
+        ),
+        (
+            b"{\"name\":\"w\",\"points\":[{\"x\":0,\"y\":0},{\"x\":12,\"y\":12.5},{\"x\":0,\"y\":5}]}",
+            InstanceFault::NotWhole(1),
+        ),
+        (
+            b"{\"name\":\"w\",\"points\":[{\"x\":0,\"y\":0},{\"x\":12,\"y\":1e3},{\"x\":0,\"y\":5}]}",
+            InstanceFault::NotWhole(1),
+        ),
+        (
+            b"{\"name\":\"w\",\"points\":[{\"x\":0,\"y\":0},{\"x\":12,\"y\":99999999999999999999},{\"x\":0,\"y\":5}]}",
+            InstanceFault::Bad(BadPoints::TooFar(1)),
+        ),
+        (
+            b"{\"name\":\"w\",\"points\":[{\"x\":0,\"y\":0},{\"x\":12,\"y\":-99999999999999999999},{\"x\":0,\"y\":5}]}",
+            InstanceFault::Bad(BadPoints::TooFar(1)),
+        ),
+        (
+            b"{\"name\":\"\",\"points\":[{\"x\":-1073741823,\"y\":-1073741823},{\"x\":1073741823,\"y\":-1073741823},{\"x\":-1073741823,\"y\":1073741824}]}",
+            InstanceFault::Bad(BadPoints::TooFar(2)),
+        ),
+        (
+            b"{\"name\":\"\",\"points\":[{\"x\":1,\"y\":1},{\"i\":1,\"x\":2,\"y\":1}]}",
+            InstanceFault::MixedIndex(1),
+        ),
+        (
+            b"{\"name\":\"\",\"points\":[{\"i\":5,\"x\":1,\"y\":1},{\"x\":2,\"y\":1}]}",
+            InstanceFault::MixedIndex(1),
+        ),
+        (
+            b"{\"name\":\"\",\"points\":[{\"i\":1,\"x\":1,\"y\":1},{\"i\":2,\"x\":2,\"y\":1}]}",
+            InstanceFault::BadIndex(1),
+        ),
+        (
+            b"{\"name\":\"\",\"points\":[{\"i\":1,\"x\":1,\"y\":1},{\"i\":1,\"x\":2,\"y\":1}]}",
+            InstanceFault::BadIndex(1),
+        ),
+        (
+            b"{\"name\":\"\",\"points\":[{\"i\":-1,\"x\":1,\"y\":1}]}",
+            InstanceFault::BadIndex(0),
+        ),
+        (
+            b"{\"name\":\"\",\"points\":[{\"i\":0.5,\"x\":1,\"y\":1}]}",
+            InstanceFault::BadIndex(0),
+        ),
+        (
+            b"{\"name\":\"\",\"points\":[]}",
+            InstanceFault::Bad(BadPoints::TooFew(0)),
+        ),
+        (
+            b"{\"name\":\"\",\"points\":[{\"x\":0,\"y\":0},{\"x\":1,\"y\":1}]}",
+            InstanceFault::Bad(BadPoints::TooFew(2)),
+        ),
+        (
+            b"{\"name\":\"\",\"points\":[{\"x\":0,\"y\":0},{\"x\":1,\"y\":1},{\"x\":0,\"y\":0}]}",
+            InstanceFault::Bad(BadPoints::SamePlace(0, 2)),
+        ),
+        (
+            b"{\"name\":\"\",\"points\":[{\"x\":0,\"y\":0},{\"x\":1,\"y\":1},{\"x\":2,\"y\":2},{\"x\":3,\"y\":3},{\"x\":4,\"y\":4}]}",
+            InstanceFault::Bad(BadPoints::OneLine),
+        ),
+    ];
+    for (text, want) in table {
+        let same = match written(&rt, text) {
+            Ok(_) => false,
+            Err(fault) => fault == want,
+        };
+        assert!(rt; same, "another fault was found");
+    }
+}
+
+// An instance of one item whose name has so many bytes.
+fn named(rt: &HostRuntime, count: usize) -> Result<Vec<u8>, AllocError> {
+    let mut text = Vec::from_slice(rt.alloc(), b"{\"name\":\"")?;
+    for _ in 0..count {
+        text.push(b'n')?;
+    }
+    text.extend_from_slice(b"\",\"points\":[]}")?;
+    Ok(text)
+}
+
+#[test]
+fn names_end_at_1000_bytes(rt: HostRuntime) -> Result<(), AllocError> {
+    let table = [
+        (1_000, InstanceFault::Bad(BadPoints::TooFew(0))),
+        (1_001, InstanceFault::LongName(1_001)),
+    ];
+    for (count, want) in table {
+        let text = named(&rt, count)?;
+        let same = match read_instance(rt.alloc(), &text) {
+            Ok(_) => false,
+            Err(fault) => fault == want,
+        };
+        assert!(rt; same, "a name was measured otherwise");
+    }
+    Ok(())
 }

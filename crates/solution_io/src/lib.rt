@@ -1,0 +1,14 @@
+//! Reads solutions from any JSON that a contestant's tools write, and writes them.
+#![tactic(auto)]
+
+mod edges;
+mod fault;
+mod reading;
+mod writing;
+
+pub use fault::SolutionFault;
+pub use reading::{read_solution, solution_of};
+pub use writing::write_solution;
+
+#[cfg(test)]
+mod tests;

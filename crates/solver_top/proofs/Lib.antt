@@ -1,0 +1,4 @@
+pub mod Numbers
+pub mod Within
+pub mod Results
+pub mod Commands

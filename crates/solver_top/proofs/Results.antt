@@ -1,0 +1,14 @@
+-- Facts about the value of a result, carried on.
+use Rattle.std.proofs.Common.{◌≡◌, Option, Some, None, Result, Ok, Err, IfOk, IfSome, rules, sym, subst}
+
+pub if_ok : {A E : Type 0} (r : Result A E) (P Q : A → Type 0) → IfOk r P → ((x : A) → P x → Q x) → IfOk r Q
+if_ok (Ok x) P Q h f = f x h
+if_ok (Err e) P Q h f = tt
+
+pub if_ok_both : {A E : Type 0} (r : Result A E) (P Q R : A → Type 0) → IfOk r P → IfOk r Q → ((x : A) → P x → Q x → R x) → IfOk r R
+if_ok_both (Ok x) P Q R h k f = f x h k
+if_ok_both (Err e) P Q R h k f = tt
+
+pub if_some_at : {A : Type 0} (o : Option A) (x : A) (P : A → Type 0) → o ≡ Some x → IfSome o P → P x
+if_some_at None x P e h = absurd (cc)
+if_some_at (Some y) x P e h = let same : y ≡ x = cc in subst P same h

@@ -1,0 +1,75 @@
+-- What the program answers to its words and its input: a verdict and a text. (This project's own.)
+use Rattle.std.specs.Prelude.{◌≡◌, ◌≢◌, ℕ, ◌+◌, ◌≤◌, List, [], ◌++◌, length, map, codes, ◌⊎◌, Some}
+use Rattle.std.specs.declared.option.Option.{Option}
+use Rattle.mcp_outside.specs.Bytes.{Took}
+use Rattle.plane.specs.declared.coordinates.Point.{Point}
+use Rattle.plane.specs.declared.segment.Pair.{Pair}
+use Rattle.partition_defs.specs.Partition.{IsConvexPartition}
+use Rattle.partition_defs.specs.Triangulation.{AreDistinct}
+use Rattle.cp_judge.specs.declared.answer.Judgement.{Judgement}
+use Rattle.cp_judge.specs.declared.answer.Judgement.TheVariants.{Convex}
+use Rattle.cp_judge.specs.Judgement.{IsJudgement}
+use Rattle.instance_io.specs.Refusal.{coordinates}
+use Rattle.text_defs.specs.Texts.{instance_text}
+use Rattle.generator.specs.declared.kinds.Kind.{Kind}
+use Rattle.generator.specs.Kinds.{AreMade}
+use Rattle.generator.specs.Names.{made_name}
+use Rattle.solver_top.specs.declared.words.Command.{Command}
+use Rattle.solver_top.specs.declared.words.Command.TheVariants.{Judge, Gen}
+use Rattle.solver_top.specs.declared.status.Verdict.{Verdict}
+use Rattle.solver_top.specs.declared.status.Verdict.TheVariants.{Done, No, Usage, Refused}
+use Rattle.solver_top.specs.declared.refusals.Refusal.{Refusal}
+use Rattle.solver_top.specs.Words.{IsLineOf, IsFaultAt}
+use Rattle.solver_top.specs.Lines.{usage_line, judgement_line}
+use Rattle.solver_top.specs.Bundles.{HasBundle, HasRefusal, refusal_line}
+
+-- the greatest input, in bytes
+abbrev pub most_input : ℕ
+most_input = 33554432
+
+-- the first refusal of an input, printed
+abbrev pub IsRefused : List ℕ → List ℕ → Type 0
+IsRefused input text = (refusal : Refusal) × HasRefusal input refusal × (text ≡ refusal_line refusal)
+
+-- the judgement on the bundle of an input, printed: convex exactly at Done
+abbrev pub IsJudged : List ℕ → Verdict → List ℕ → Type 0
+IsJudged input Done text = (S : List Point) × (K : List Pair) × HasBundle input S K
+    × AreDistinct K × IsConvexPartition S K × (text ≡ judgement_line (Convex (length K)))
+IsJudged input No text = (S : List Point) × (K : List Pair) × (j : Judgement) × HasBundle input S K
+    × IsJudgement S K j × (j ≢ Convex (length K)) × (text ≡ judgement_line j)
+IsJudged input Usage text = ⊥
+IsJudged input Refused text = IsRefused input text
+
+-- the instance made from a number, and an LF
+abbrev pub IsGenerated : Kind → (n seed : ℕ) → List ℕ → Type 0
+IsGenerated kind n seed text = (S : List Point) × AreMade kind n seed S
+    × (text ≡ instance_text (made_name kind n seed) (map coordinates S) ++ codes "\n")
+
+-- an input that is too long is refused before all else, one byte past the limit
+abbrev pub IsTooLong : List ℕ → Option (List ℕ) → Verdict → List ℕ → Type 0
+IsTooLong input left verdict text = Took (most_input + 1) input left × (verdict ≡ Refused) × (text ≡ codes "refused TooLong\n")
+
+-- a command that reads its input to the end
+abbrev pub ReadsAll : (List ℕ → Verdict → List ℕ → Type 0) → List ℕ → Option (List ℕ) → Verdict → List ℕ → Type 0
+ReadsAll Answers input left verdict text =
+    IsTooLong input left verdict text ⊎ ((length input ≤ most_input) × (left ≡ Some []) × Answers input verdict text)
+
+-- the numbers of a command are within their limits
+abbrev pub IsInRange : Command → Type 0
+IsInRange Judge = Unit {0}
+IsInRange (Gen kind n seed) = (3 ≤ n) × (n ≤ 5000)
+
+-- what a command answers, of the bytes that the source had left, with what it has left then
+abbrev pub IsAnswerOf : Command → List ℕ → Option (List ℕ) → Verdict → List ℕ → Type 0
+IsAnswerOf Judge input left verdict text = ReadsAll IsJudged input left verdict text
+IsAnswerOf (Gen kind n seed) input left verdict text = (left ≡ Some input) × (verdict ≡ Done) × IsGenerated kind n seed text
+
+-- words that are no line, with the position that is shown; nothing is read
+abbrev pub IsUsage : List (List ℕ) → List ℕ → Option (List ℕ) → Verdict → List ℕ → Type 0
+IsUsage words input left verdict text =
+    (verdict ≡ Usage) × (left ≡ Some input) × ((k : ℕ) × IsFaultAt words k × (text ≡ usage_line k))
+
+-- what the program answers
+abbrev pub IsAnswer : List (List ℕ) → List ℕ → Option (List ℕ) → Verdict → List ℕ → Type 0
+IsAnswer words input left verdict text =
+    IsUsage words input left verdict text ⊎ ((command : Command) × IsLineOf words command × IsAnswerOf command input left verdict text)

@@ -1,0 +1,6 @@
+pub mod Words
+pub mod Lines
+pub mod Statuses
+pub mod Bundles
+pub mod Answers
+pub mod Reading

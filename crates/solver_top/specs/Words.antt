@@ -1,0 +1,54 @@
+-- The words of the command line, and the lines that they may form. (This project's own.)
+use Rattle.std.specs.Prelude.{◌≡◌, ℕ, ◌+◌, ◌<◌, ◌≤◌, ◌^◌, List, [], ◌∷◌, length, take, map, codes, String, string_bytes, ◌⊎◌}
+use Rattle.std.specs.Fmt.{decimal}
+use Rattle.std.specs.declared.alloc.Global.{Global}
+use Rattle.generator.specs.declared.kinds.Kind.{Kind}
+use Rattle.generator.specs.Names.{kind_word}
+use Rattle.solver_top.specs.declared.words.Command.{Command}
+use Rattle.solver_top.specs.declared.words.Command.TheVariants.{Judge, Gen}
+
+abbrev pub words_of : List (String Global) → List (List ℕ)
+words_of words = map string_bytes words
+
+-- the words of a line, each as the numbers that it may be
+abbrev pub IsKind : List ℕ → Type 0
+IsKind word = (kind : Kind) × (word ≡ kind_word kind)
+
+abbrev pub IsCount : List ℕ → Type 0
+IsCount word = (n : ℕ) × (3 ≤ n) × (n ≤ 5000) × (word ≡ decimal n)
+
+abbrev pub IsSeed : List ℕ → Type 0
+IsSeed word = (seed : ℕ) × (seed < 2 ^ 64) × (word ≡ decimal seed)
+
+abbrev pub Is : List ℕ → List ℕ → Type 0
+Is expected word = word ≡ expected
+
+-- the lines: `judge`, and `gen KIND N SEED`
+abbrev pub judge_line : List (List ℕ → Type 0)
+judge_line = Is (codes "judge") ∷ []
+
+abbrev pub gen_line : List (List ℕ → Type 0)
+gen_line = Is (codes "gen") ∷ IsKind ∷ IsCount ∷ IsSeed ∷ []
+
+-- the words begin a line
+abbrev pub Begins : List (List ℕ → Type 0) → List (List ℕ) → Type 0
+Begins line [] = Unit {0}
+Begins [] (word ∷ words) = ⊥
+Begins (May ∷ line) (word ∷ words) = May word × Begins line words
+
+-- the words begin some line
+abbrev pub BeginsALine : List (List ℕ) → Type 0
+BeginsALine words = Begins judge_line words ⊎ Begins gen_line words
+
+-- the words are the line of this command
+abbrev pub IsLineOf : List (List ℕ) → Command → Type 0
+IsLineOf words Judge = words ≡ codes "judge" ∷ []
+IsLineOf words (Gen kind n seed) = (words ≡ codes "gen" ∷ kind_word kind ∷ decimal n ∷ decimal seed ∷ []) × (3 ≤ n) × (n ≤ 5000) × (seed < 2 ^ 64)
+
+-- The words are no line: k is the position of the first one that no line allows after those before it, or the number of
+-- words where they begin a longer line.
+pub record IsFaultAt (words : List (List ℕ)) (k : ℕ) : Type 0 where
+  pub within : k ≤ length words
+  pub before : BeginsALine (take k words)
+  pub fault : (k ≡ length words) ⊎ ¬ BeginsALine (take (k + 1) words)
+  pub none : (command : Command) → ¬ IsLineOf words command

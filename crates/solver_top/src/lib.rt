@@ -1,0 +1,21 @@
+//! What the program does: it reads its words, then its input, decides refusals, works, and writes.
+#![tactic(auto)]
+
+mod answers;
+mod bundles;
+mod generating;
+mod judging;
+mod lines;
+mod refusals;
+mod running;
+mod status;
+mod words;
+
+pub use answers::Answer;
+pub use bundles::{Bundle, read_bundle};
+pub use generating::generated;
+pub use judging::judged;
+pub use refusals::{BundleFault, Refusal, Unread};
+pub use running::{MOST_INPUT, run};
+pub use status::{Status, Verdict};
+pub use words::{Command, read_words};

@@ -1,0 +1,149 @@
+// The run of the program, in phases: words, input and work, text.
+ghost use Rattle.std.specs.Prelude.{◌≡◌, ◌≢◌, ◌≤◌, ◌⊎◌, ℕ, List, [], length, codes, Some, IfOk, IfErr, IsErrOf};
+ghost use Rattle.std.specs.Io.KnownBytes.{Appends, Keeps};
+ghost use Rattle.mcp_outside.specs.Causes.{Rose};
+ghost use Rattle.mcp_outside.specs.Bytes.{AppendsPrefix};
+ghost use Rattle.solver_top.specs.Words.{words_of};
+ghost use Rattle.solver_top.specs.Lines.{usage_line};
+ghost use Rattle.solver_top.specs.Statuses.{status_of};
+ghost use Rattle.solver_top.specs.Answers.{IsAnswer, IsAnswerOf, ReadsAll, IsJudged, IsInRange};
+
+use crate::answers::Answer;
+use crate::generating::generated;
+use crate::judging::judged;
+use crate::lines::usage_line;
+use crate::status::{Status, Verdict};
+use crate::words::{Command, read_words};
+use mcp_outside::{Gate, ReadEnd, Sink, Source, read_uncounted, write_all};
+use std::alloc::Global;
+use std::thread::Threads;
+
+/// The greatest input, in bytes. (This project's own.)
+pub const MOST_INPUT: usize = 33_554_432;
+
+// Why no answer was made.
+#[derive(Clone, Copy, Debug, PartialEq, Eq)]
+enum Halt {
+    ReadFault,
+    NoMemory,
+}
+
+// What the program answers to its words and its input.
+fn answer<I: Source>(alloc: Global, words: &[String], input: &mut I) -> Result<Answer, Halt>
+    ensures later { I.faults input.old ≤ I.faults input.new }
+    ensures failed { IsErrOf result Halt.ReadFault → Rose (I.faults input.old) (I.faults input.new) }
+    ensures answer { (xs : List ℕ) → I.left input.old ≡ Some xs → IfOk result (λ answer.
+        IsAnswer (words_of words.now) xs (I.left input.new) answer.verdict answer.text.items) }
+{
+    match read_words(words) {
+        Ok(command) => command_answer(alloc, command, input),
+        Err(k) => usage_answer(alloc, k),
+    }
+}
+
+// The answer to words that are no line.
+fn usage_answer(alloc: Global, k: usize) -> Result<Answer, Halt>
+    ensures halt { IfErr result (λ halt. halt ≡ Halt.NoMemory) }
+    ensures verdict { IfOk result (λ answer. answer.verdict ≡ Verdict.Usage) }
+    ensures text { IfOk result (λ answer. answer.text.items ≡ usage_line k) }
+{
+    match usage_line(alloc, k) {
+        Ok(line) => Ok(Answer::of_line(Verdict::Usage, line)),
+        Err(_) => Err(Halt::NoMemory),
+    }
+}
+
+// What a command answers to its input.
+fn command_answer<I: Source>(alloc: Global, command: Command, input: &mut I) -> Result<Answer, Halt>
+    requires { IsInRange command }
+    ensures later { I.faults input.old ≤ I.faults input.new }
+    ensures failed { IsErrOf result Halt.ReadFault → Rose (I.faults input.old) (I.faults input.new) }
+    ensures answer { (xs : List ℕ) → I.left input.old ≡ Some xs → IfOk result (λ answer.
+        IsAnswerOf command xs (I.left input.new) answer.verdict answer.text.items) }
+{
+    match command {
+        Command::Judge => judge_answer(alloc, input),
+        Command::Gen { kind, n, seed } => match generated(alloc, kind, n, seed) {
+            Ok(answer) => Ok(answer),
+            Err(_) => Err(Halt::NoMemory),
+        },
+    }
+}
+
+// What `judge` answers to its input.
+fn judge_answer<I: Source>(alloc: Global, input: &mut I) -> Result<Answer, Halt>
+    ensures later { I.faults input.old ≤ I.faults input.new }
+    ensures failed { IsErrOf result Halt.ReadFault → Rose (I.faults input.old) (I.faults input.new) }
+    ensures answer { (xs : List ℕ) → I.left input.old ≡ Some xs → IfOk result (λ answer.
+        ReadsAll IsJudged xs (I.left input.new) answer.verdict answer.text.items) }
+{
+    match read_uncounted(alloc, input, MOST_INPUT) {
+        Ok(bytes) => match judged(alloc, bytes.as_slice()) {
+            Ok(answer) => Ok(answer),
+            Err(_) => Err(Halt::NoMemory),
+        },
+        Err(ReadEnd::TooLong) => too_long(alloc),
+        Err(ReadEnd::Failed) => Err(Halt::ReadFault),
+        Err(ReadEnd::NoMemory) => Err(Halt::NoMemory),
+    }
+}
+
+// The answer to an input that is too long.
+fn too_long(alloc: Global) -> Result<Answer, Halt>
+    ensures halt { IfErr result (λ halt. halt ≡ Halt.NoMemory) }
+    ensures verdict { IfOk result (λ answer. answer.verdict ≡ Verdict.Refused) }
+    ensures text { IfOk result (λ answer. answer.text.items ≡ codes "refused TooLong\n") }
+{
+    match String::from_str(alloc, "refused TooLong\n") {
+        Ok(line) => Ok(Answer::of_line(Verdict::Refused, line)),
+        Err(_) => Err(Halt::NoMemory),
+    }
+}
+
+// Writes an answer whole, or a prefix of its text.
+fn deliver<O: Sink>(answer: &Answer, out: &mut O) -> Status
+    ensures later { O.faults out.old ≤ O.faults out.new }
+    ensures status { (result ≡ status_of answer.now.verdict) ⊎ (result ≡ Status.WriteFault) }
+    ensures whole { result ≢ Status.WriteFault → Appends (O.contents out.old) (O.contents out.new) answer.now.text.items }
+    ensures fault { result ≡ Status.WriteFault → Rose (O.faults out.old) (O.faults out.new) }
+    ensures prefix { result ≡ Status.WriteFault → AppendsPrefix (O.contents out.old) (O.contents out.new) answer.now.text.items }
+{
+    match write_all(out, answer.text.as_slice()) {
+        Ok(()) => answer.verdict.status(),
+        Err(_) => Status::WriteFault,
+    }
+}
+
+/// Does all that the program does: reads the words, then the input where the command reads one, then decides refusals,
+/// works, and writes. All that is written is made before the first byte is given. It returns for every command. (This
+/// project's own.)
+pub fn run<R: Threads + Sync, I: Source, O: Sink, G: Gate + Sync>(
+    rt: &R,
+    alloc: Global,
+    words: &[String],
+    input: &mut I,
+    out: &mut O,
+    gate: &G,
+) -> Status
+    // Where the source tells its bytes, a status of a whole text is the verdict of the answer, and its text was written.
+    ensures answered { (xs : List ℕ) (verdict : Verdict) → I.left input.old ≡ Some xs → result ≡ status_of verdict →
+        (text : List ℕ) × IsAnswer (words_of words.now) xs (I.left input.new) verdict text
+        × Appends (O.contents out.old) (O.contents out.new) text }
+    // After a fault of the sink it holds a prefix of the text that the answer has.
+    ensures write_fault { result ≡ Status.WriteFault → Rose (O.faults out.old) (O.faults out.new) }
+    ensures prefix { (xs : List ℕ) → I.left input.old ≡ Some xs → result ≡ Status.WriteFault →
+        (verdict : Verdict) × (text : List ℕ) × IsAnswer (words_of words.now) xs (I.left input.new) verdict text
+        × AppendsPrefix (O.contents out.old) (O.contents out.new) text }
+    ensures read_fault { result ≡ Status.ReadFault → Rose (I.faults input.old) (I.faults input.new) }
+    // Nothing was written after a fault of the source, and where memory was not found.
+    ensures silent { (result ≡ Status.ReadFault) ⊎ (result ≡ Status.NoMemory) → out.new ≡ out.old }
+    ensures later { (I.faults input.old ≤ I.faults input.new) × (O.faults out.old ≤ O.faults out.new) }
+{
+    let _ = rt;
+    let _ = gate;
+    match answer(alloc, words, input) {
+        Ok(answer) => deliver(&answer, out),
+        Err(Halt::ReadFault) => Status::ReadFault,
+        Err(Halt::NoMemory) => Status::NoMemory,
+    }
+}

@@ -1,0 +1,4 @@
+pub mod Turning
+pub mod Listed
+pub mod Cyclic
+pub mod Changes

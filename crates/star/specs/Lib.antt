@@ -1,0 +1,3 @@
+pub mod Turn
+pub mod Stars
+pub mod StarOf

@@ -1,0 +1,6 @@
+pub mod Ascending
+pub mod Rising
+pub mod Every
+pub mod State
+pub mod Joining
+pub mod Listing

@@ -65,7 +65,7 @@ start_chains S apart T [] l2 z last e he next h = absurd h
 start_chains S apart T (t ∷ r) [] z last e he next h = absurd h
 start_chains S apart T (t ∷ r) (t2 ∷ r2) z last e he next h =
     subst₂ (λ x y. AreJoining S (orientation S) (opposite S) (T ++ e ∷ []) (x ∷ r) (y ∷ r2) z last) (sym h.0) (sym h.1)
-    (start (sweep_setting S apart) (orientation S) (opposite S) (plane_laws S apart) (opposite_laws S apart) (Joins T) (Joins (T ++ e ∷ [])) r r2 z last
+    (start (sweep_setting S apart) (orientation S) (opposite S) (plane_laws S apart) (opposite_laws S apart) (opposite_turned S) (Joins T) (Joins (T ++ e ∷ [])) r r2 z last
     h.2 next.within next.before next.next (push_adds T e last z he))
 
 start_unjoined : (S : List Point) (apart : AreApart S) (T : List Pair) (l l2 : List ℕ) (z last : ℕ) → IsNext S last z → AreWhole S T l l2 last → ¬ Joins T last z

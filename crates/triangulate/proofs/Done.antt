@@ -7,7 +7,7 @@ use Rattle.partition_defs.specs.Triangulation.{AreDistinct}
 use Rattle.partition_defs.specs.Sweep.{IsSweptBefore}
 use Rattle.triangulate.specs.Sides.{UpTo}
 use Rattle.triangulate.specs.Swept.{AreWhole, IsSweptWhole, IsSweepTriangulation}
-use Rattle.triangulate.proofs.Triangulated.{is_triangulation, are_sweep_pairs}
+use Rattle.triangulate.proofs.Triangulated.{is_triangulation, are_sweep_pairs, is_sweep_set}
 use Rattle.triangulate.proofs.Border.{triangulation_count}
 
 other_point : (z n : ℕ) → 2 ≤ n → (u : ℕ) × (u < n) × (u ≢ z)
@@ -25,6 +25,7 @@ chains_done S acc T (t ∷ r) (t2 ∷ r2) z h all d count =
       triangulation = is_triangulation S acc.apart T r r2 z o.0 h.2 all o.1 o.2;
       count = triangulation_count S acc.apart acc.spread T r r2 z h.2 all count;
       sweep = are_sweep_pairs S acc.apart T r r2 z h.2;
+      set = is_sweep_set S acc.apart T r r2 z h.2 all;
     }
 
 pub done : (S : List Point) (T : List Pair) (l l2 : List ℕ) → IsSweptWhole S T l l2 → IsSweepTriangulation S T

@@ -1,12 +1,13 @@
 -- The other moves of the sweep: its two chains changed, the first joining of a point, and the end of joining it.
-use Rattle.std.proofs.Common.{◌≡◌, ℕ, ℤ, pos, neg_ℤ, ◌<◌, inl, inr, sym, refl, subst, List, [], ◌∷◌, arith}
+use Rattle.std.proofs.Common.{◌≡◌, ℕ, ℤ, pos, neg_ℤ, ◌<◌, inl, inr, sym, refl, subst, List, [], ◌∷◌, arith, ◌⊎◌}
 use Rattle.std.specs.Prelude.{◌<ℤ◌, ◌≤ℤ◌}
 use Rattle.std.proofs.lemmas.Int.{ints}
-use Rattle.triangulate.proofs.Field.{Setting, Laws, AreTurned, by_place, up_to_before, before_up_to, up_to_not_before, zero_ends, zero_last}
+use Rattle.triangulate.proofs.Field.{Setting, Laws, AreTurned, by_place, up_to_before, before_up_to, up_to_not_before, zero_ends, zero_last, turned_back}
 use Rattle.triangulate.proofs.Turns.{beyond_side, opposite_turned}
 use Rattle.triangulate.proofs.Sides.{settled_before, settled_side}
 use Rattle.triangulate.proofs.State.{Adds}
 use Rattle.triangulate.proofs.Step.{at, chain_more, apex_more, pairs_add, sweeps_new, weaken, at_zero, met_more}
+use Rattle.triangulate.proofs.Wedge.{aside, no_low}
 use Rattle.triangulate.specs.Sides.{UpTo, AllLeft, Clear, Beyond, Cross}
 use Rattle.triangulate.specs.State.{Links, Side, Covered, Chain, Reach, Sweeps, Apex, Pairs, Met, From, Joining, Whole, Settled}
 
@@ -82,6 +83,11 @@ turned E o w L tr J t r t2 r2 z last m = record {
     | inl x ↦ inl (apex_turned E o w L tr J p q x)
     | inr x ↦ elim x [ inl y ↦ inr (inr y) | inr y ↦ inr (inl y) ]
   ];
+  older = λ i j iN jn hij hjz k. m.older i j iN jn hij hjz (sweeps_turned E w o (turned_back o w tr) i j k);
+  sees = λ i iN hiz k. elim (m.sees i iN hiz (sweeps_turned E w o (turned_back o w tr) i z k)) [
+    | inl j ↦ inl j
+    | inr u ↦ elim u [ inl x ↦ inr (inr x) | inr x ↦ inr (inl x) ]
+  ];
   fresh = λ s j. elim (m.fresh s j) [ inl x ↦ inr x | inr x ↦ inl x ];
 }
 
@@ -132,10 +138,15 @@ start_met : (E : Setting) (J J2 : ℕ → ℕ → Type 0) (z last : ℕ) → Add
 start_met E J J2 z last add old next s u sn (inl e) un hu = (last, at (λ x y. J2 x last) z z s z e refl add.back)
 start_met E J J2 z last add old next s u sn (inr h) un hu = met_more E J J2 add.old s (old s u sn (next s sn h) un hu)
 
+start_sees : (E : Setting) (o w : ℕ → ℕ → ℕ → ℤ) → Laws E o → AreTurned o w → (J : ℕ → ℕ → Type 0) (last z i : ℕ) → last < E.n → E.B last z → i < E.n → J last z → UpTo E.B i last
+    → Sweeps E.n E.B o i z → J i z ⊎ ((o last z i <ℤ pos 0) ⊎ (w last z i <ℤ pos 0))
+start_sees E o w L tr J last z i ln hlz iN j (inl e) k = inl (subst (λ x. J x z) (sym e) j)
+start_sees E o w L tr J last z i ln hlz iN j (inr h) k = inr (aside E o w L tr last z i ln hlz h k)
+
 -- the new point is joined to the last one
-pub start : (E : Setting) (o w : ℕ → ℕ → ℕ → ℤ) → Laws E o → Laws E w → (J J2 : ℕ → ℕ → Type 0) (r r2 : List ℕ) (z last : ℕ)
+pub start : (E : Setting) (o w : ℕ → ℕ → ℕ → ℤ) → Laws E o → Laws E w → AreTurned o w → (J J2 : ℕ → ℕ → Type 0) (r r2 : List ℕ) (z last : ℕ)
     → Whole E.n E.B o w J r r2 last → z < E.n → E.B last z → ((s : ℕ) → s < E.n → E.B s z → UpTo E.B s last) → Adds J J2 last z → Joining E.n E.B o w J2 last r last r2 z last
-start E o w L M J J2 r r2 z last m zn hlz next add =
+start E o w L M tr J J2 r r2 z last m zn hlz next add =
     let low : Reach E.n E.B o J2 last r z = start_reach E o J J2 r z last m.z_in hlz next add m.lower in
     record {
       z_in = zn;
@@ -158,6 +169,8 @@ start E o w L M J J2 r r2 z last m zn hlz next add =
           | inr e ↦ inr (inl (inl (e.1, e.0)))
         ]
       ];
+      older = λ i j iN jn hij hjz k. add.old i j (m.whole i j iN jn hij (next j jn hjz) k);
+      sees = λ i iN hiz k. start_sees E o w L tr J2 last z i m.z_in hlz iN add.new (next i iN hiz) k;
       fresh = λ s j. elim (add.only s z j) [
         | inl k ↦ up_to_not_before E z last (m.pairs.up_to z s (m.pairs.back s z k)) hlz
         | inr k ↦ elim k [
@@ -227,6 +240,19 @@ closed E o L J t r z zn c h clear = record {
       (λ p. record { a = t; b = z; link = inl (refl, refl); from = inr p; before = hiz });
 }
 
+finish_whole : (E : Setting) (o w : ℕ → ℕ → ℕ → ℤ) → Laws E o → Laws E w → (J : ℕ → ℕ → Type 0) (t : ℕ) (r : List ℕ) (t2 : ℕ) (r2 : List ℕ) (z last : ℕ)
+    → Joining E.n E.B o w J t r t2 r2 z last → Settled o t r z → Settled w t2 r2 z → (i j : ℕ) → i < E.n → j < E.n → E.B i j → UpTo E.B j z → Sweeps E.n E.B o i j → J i j
+finish_whole E o w L M J t r t2 r2 z last m h h2 i j iN jn hij (inr g) k = m.older i j iN jn hij g k
+finish_whole E o w L M J t r t2 r2 z last m h h2 i j iN jn hij (inl e) k =
+    let hiz : E.B i z = subst (λ x. E.B i x) e hij in
+    subst (λ x. J i x) (sym e) (elim (m.sees i iN hiz (subst (λ x. Sweeps E.n E.B o i x) e k)) [
+      | inl g ↦ g
+      | inr u ↦ elim u [
+        | inl g ↦ no_low (o t z i) (closing_left E o L J t r z m.z_in m.lower h i iN (inr hiz)) g
+        | inr g ↦ no_low (w t2 z i) (closing_left E w M J t2 r2 z m.z_in m.upper h2 i iN (inr hiz)) g
+      ]
+    ])
+
 -- the new point is joined to all the points that it sees
 pub finish : (E : Setting) (o w : ℕ → ℕ → ℕ → ℤ) → Laws E o → Laws E w → AreTurned o w → (J : ℕ → ℕ → Type 0) (t : ℕ) (r : List ℕ) (t2 : ℕ) (r2 : List ℕ) (z last : ℕ)
     → Joining E.n E.B o w J t r t2 r2 z last → Settled o t r z → Settled w t2 r2 z → Whole E.n E.B o w J (t ∷ r) (t2 ∷ r2) z
@@ -237,6 +263,7 @@ finish E o w L M tr J t r t2 r2 z last m h h2 = record {
   pairs = m.pairs;
   met = m.met;
   apex = m.apex;
+  whole = λ i j iN jn hij hj k. finish_whole E o w L M J t r t2 r2 z last m h h2 i j iN jn hij hj k;
 }
 
 -- the first point alone
@@ -248,4 +275,5 @@ first E o w J z zn least none = record {
   pairs = record { in_first = λ p q j. absurd (none p q j); up_to = λ p q j. absurd (none p q j); back = λ p q j. absurd (none p q j); differ = λ p q j. absurd (none p q j); sweeps = λ p q j h. absurd (none p q j) };
   met = λ s u sn hs un hu. absurd (least u un (before_up_to E u s z hu hs));
   apex = λ p q j. absurd (none p q j);
+  whole = λ i j iN jn hij hj k. absurd (least i iN (before_up_to E i j z hij hj));
 }

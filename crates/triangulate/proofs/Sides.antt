@@ -19,10 +19,10 @@ after_all : (a b c d x : ℤ) → AreInOrder a b c d → a <ℤ pos 0 → x ≡ 
 after_all a b c d x q ha e hx hc =
     let r : b <ℤ a = q.falls_first ha (omega (arith, ints)) in omega (arith, ints, q.sum)
 
-before_all : (a b c d : ℤ) → AreInOrder a b c d → a ≡ pos 0 → d <ℤ pos 0 → pos 0 ≤ℤ b → ⊥
+pub before_all : (a b c d : ℤ) → AreInOrder a b c d → a ≡ pos 0 → d <ℤ pos 0 → pos 0 ≤ℤ b → ⊥
 before_all a b c d q ha hd hb = let r : b <ℤ a = q.falls_last (omega (arith, ints)) hd in omega (arith, ints)
 
-amid_all : (a b c d : ℤ) → AreInOrder a b c d → a ≡ pos 0 → b <ℤ pos 0 → pos 0 ≤ℤ d → ⊥
+pub amid_all : (a b c d : ℤ) → AreInOrder a b c d → a ≡ pos 0 → b <ℤ pos 0 → pos 0 ≤ℤ d → ⊥
 amid_all a b c d q ha hb hd = let r : a ≤ℤ b = q.rises (omega (arith, ints)) hd in omega (arith, ints)
 
 zero_turned : (x y : ℤ) → x ≡ neg_ℤ y → x ≡ pos 0 → y ≡ pos 0

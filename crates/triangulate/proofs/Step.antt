@@ -6,7 +6,8 @@ use Rattle.triangulate.proofs.Field.{Setting, Laws, not_both, before_up_to, up_t
 use Rattle.triangulate.proofs.Turns.{Spine, beyond_side, spine_side, no_crossing, same_above}
 use Rattle.triangulate.proofs.Sides.{empty_next, empty_side}
 use Rattle.triangulate.proofs.State.{Adds}
-use Rattle.triangulate.specs.Sides.{UpTo, Beyond, Empty}
+use Rattle.triangulate.proofs.Wedge.{wedge}
+use Rattle.triangulate.specs.Sides.{UpTo, Beyond, Empty, AllLeft, Clear}
 use Rattle.triangulate.specs.State.{Links, Side, Covered, Chain, Reach, Sweeps, Apex, Pairs, From, Joining}
 
 -- at equal points
@@ -112,6 +113,18 @@ step_apex E o w L J J2 b a r t2 r2 z last m an bn baz hollow jab add p q j =
       ]
     ]
 
+-- a sweep pair of z that isn't joined still lies beyond one of the two sides
+step_sees : (E : Setting) (o w : ℕ → ℕ → ℕ → ℤ) → Laws E o → (J J2 : ℕ → ℕ → Type 0) (b a z i t2 : ℕ) → a < E.n → b < E.n → z < E.n → E.B a b → E.B b z
+    → AllLeft E.n E.B o (λ s. E.B s z) a b → Clear E.n E.B o a b → o a b z <ℤ pos 0 → Beyond E.n E.B o a z → Adds J J2 a z → i < E.n → E.B i z → Sweeps E.n E.B o i z
+    → J i z ⊎ ((o b z i <ℤ pos 0) ⊎ (w t2 z i <ℤ pos 0)) → J2 i z ⊎ ((o a z i <ℤ pos 0) ⊎ (w t2 z i <ℤ pos 0))
+step_sees E o w L J J2 b a z i t2 an bn zn hab hbz left clear h far add iN hiz k (inl j) = inl (add.old i z j)
+step_sees E o w L J J2 b a z i t2 an bn zn hab hbz left clear h far add iN hiz k (inr (inr g)) = inr (inr g)
+step_sees E o w L J J2 b a z i t2 an bn zn hab hbz left clear h far add iN hiz k (inr (inl g)) =
+    elim (wedge E o L a b z i an bn zn iN hab hbz hiz left clear h far k g) [
+      | inl e ↦ inl (subst (λ x. J2 x z) (sym e) add.new)
+      | inr p ↦ inr (inl p)
+    ]
+
 -- the last of the chain but one is joined, too
 pub step : (E : Setting) (o w : ℕ → ℕ → ℕ → ℤ) → Laws E o → (J J2 : ℕ → ℕ → Type 0) (b a : ℕ) (r : List ℕ) (t2 : ℕ) (r2 : List ℕ) (z last : ℕ)
     → Joining E.n E.B o w J b (a ∷ r) t2 r2 z last → o a b z <ℤ pos 0 → Adds J J2 a z → Joining E.n E.B o w J2 a r t2 r2 z last
@@ -141,6 +154,8 @@ step E o w L J J2 b a r t2 r2 z last m h add =
       pairs = pairs_add E o J J2 a z s.a_in m.z_in haz add (sweeps_new E o L a z s.a_in m.z_in haz far (spine_side E o L a b z s.b_in s.before s.b_seen s.left)) m.pairs;
       met = λ u v un hu vn hv. met_more E J J2 add.old u (m.met u v un hu vn hv);
       apex = step_apex E o w L J J2 b a r t2 r2 z last m s.a_in s.b_in baz hollow s.joined add;
+      older = λ i j iN jn hij hjz k. add.old i j (m.older i j iN jn hij hjz k);
+      sees = λ i iN hiz k. step_sees E o w L J J2 b a z i t2 s.a_in s.b_in m.z_in s.before s.b_seen s.left s.clear h far add iN hiz k (m.sees i iN hiz k);
       fresh = λ u j. elim (add.only u z j) [
         | inl k ↦ elim (m.fresh u k) [
           | inl f ↦ inl (record { from = inr (before_up_to E a b u s.before f.from); side = f.side })

@@ -19,6 +19,7 @@ use Rattle.triangulate.proofs.Places.{sweep_setting, plane_laws, opposite_laws, 
 use Rattle.triangulate.specs.Sides.{Clear}
 use Rattle.triangulate.specs.State.{Links, Sweeps, Apex, Pairs, Whole}
 use Rattle.triangulate.specs.Swept.{opposite}
+use Rattle.triangulate.specs.SweepSet.{IsSweepSet}
 
 -- the state of the sweep over the points S with all of them in it
 abbrev pub Swept : (S : List Point) → AreApart S → List Pair → (r r2 : List ℕ) → (z : ℕ) → Type 0
@@ -132,3 +133,22 @@ is_triangulation S apart T r r2 z u m all un hu =
       met = λ p pn. met_in S apart T r r2 z m p (met_of E (orientation S) (opposite S) (Joins T) r r2 z m all u un hu p pn);
       apex = λ p q j h. apex_in S apart T p q (apex_of E (orientation S) (opposite S) (plane_laws S apart) (opposite_turned S) (Joins T) r r2 z m all p q h.0 j h.1 h.2);
     }
+
+-- each sweep pair is among the pairs
+sweeps_of : (S : List Point) (apart : AreApart S) (i j : ℕ) → IsSweepPair S i j → Sweeps (length S) (IsSweptBefore S) (orientation S) i j
+sweeps_of S apart i j h = record { clear = clear_to S apart i j h.0; alone = λ k l kn ln hk hl. h.1 k l kn ln (inr hk) (inr hl) }
+
+pub sweep_pair_joined : (S : List Point) (apart : AreApart S) (T : List Pair) (r r2 : List ℕ) (z : ℕ) → Swept S apart T r r2 z → All (sweep_setting S apart) z
+    → (i j : ℕ) → i < length S → j < length S → i ≢ j → IsSweepPair S i j → Joins T i j
+sweep_pair_joined S apart T r r2 z m all i j iN jn hne h =
+    let M : Pairs (length S) (IsSweptBefore S) (orientation S) (Joins T) z = m.pairs in
+    by_place (sweep_setting S apart) i j iN jn
+    (λ p. m.whole i j iN jn p (all j jn) (sweeps_of S apart i j h))
+    (λ e. absurd (hne e))
+    (λ p. M.back j i (m.whole j i jn iN p (all i iN) (sweeps_of S apart j i (sweep_pair_swap S apart i j h))))
+
+pub is_sweep_set : (S : List Point) (apart : AreApart S) (T : List Pair) (r r2 : List ℕ) (z : ℕ) → Swept S apart T r r2 z → All (sweep_setting S apart) z → IsSweepSet S T
+is_sweep_set S apart T r r2 z m all i j hij jn = (
+  (λ k. sweep_pair_of S apart T r r2 z m i j k),
+  (λ h. sweep_pair_joined S apart T r r2 z m all i j (omega arith) jn (less_differ i j hij) h),
+)

@@ -11,6 +11,7 @@ use Rattle.triangulate.specs.declared.sweep.Part.{Part}
 use Rattle.triangulate.specs.declared.sweep.Part.TheVariants.{Lower, Upper}
 use Rattle.triangulate.specs.Sides.{UpTo}
 use Rattle.triangulate.specs.State.{Whole, Joining, Settled}
+use Rattle.triangulate.specs.SweepSet.{IsSweepSet}
 
 -- the orientation turned over
 abbrev pub opposite : List Point → (p q r : ℕ) → ℤ
@@ -82,3 +83,4 @@ pub record IsSweepTriangulation (S : List Point) (T : List Pair) : Type 0 where
   pub triangulation : IsTriangulation S T
   pub count : HasTriangulationCount S T
   pub sweep : AreSweepPairs S T
+  pub set : IsSweepSet S T

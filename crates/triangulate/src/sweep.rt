@@ -5,6 +5,7 @@ ghost use Rattle.plane.specs.Accepted.{AreAccepted};
 ghost use Rattle.partition_defs.specs.Triangulation.{AreDistinct, IsTriangulation, HasTriangulationCount};
 ghost use Rattle.partition_defs.specs.Sweep.{AreSweepPairs};
 ghost use Rattle.triangulate.specs.Order.{IsSweepOrder};
+ghost use Rattle.triangulate.specs.SweepSet.{IsSweepSet};
 ghost use Rattle.triangulate.specs.Swept.{turn, other_turn, IsJoining, IsSettled, IsSeen, IsSwept, IsNext, IsSweptWhole};
 
 use crate::chain::Chain;
@@ -127,6 +128,7 @@ pub fn sweep_pairs(alloc: Global, points: &Points) -> Result<Vec<Pair>, AllocErr
     ensures triangulation { IfOk result (λ v. IsTriangulation points.now v.items) }
     ensures count { IfOk result (λ v. HasTriangulationCount points.now v.items) }
     ensures sweep { IfOk result (λ v. AreSweepPairs points.now v.items) }
+    ensures set { IfOk result (λ v. IsSweepSet points.now v.items) }
 {
     let order = sweep_order(alloc, points)?;
     let sweep = sweep_through(alloc, points, &order)?;

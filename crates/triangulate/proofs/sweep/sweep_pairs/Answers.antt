@@ -16,3 +16,7 @@ returns-clause-count c =
 pub returns-clause-sweep : goal.returns-clause-sweep
 returns-clause-sweep c =
     (done c.args.points.now c.in_ok-sweep.sweep.pairs.items c.in_ok-sweep.sweep.lower c.in_ok-sweep.sweep.upper c.in_ok-sweep.ensures).sweep
+
+pub returns-clause-set : goal.returns-clause-set
+returns-clause-set c =
+    (done c.args.points.now c.in_ok-sweep.sweep.pairs.items c.in_ok-sweep.sweep.lower c.in_ok-sweep.sweep.upper c.in_ok-sweep.ensures).set

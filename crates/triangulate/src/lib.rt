@@ -4,8 +4,10 @@
 
 mod chain;
 mod order;
+mod starting;
 mod sweep;
 
+pub use starting::{start, start_pairs};
 pub use sweep::sweep_pairs;
 
 #[cfg(test)]

@@ -9,19 +9,25 @@ use Rattle.partition_defs.specs.Triangulation.{AreDistinct}
 use Rattle.cp_judge.specs.declared.answer.Judgement.{Judgement}
 use Rattle.cp_judge.specs.declared.answer.Judgement.TheVariants.{Convex}
 use Rattle.cp_judge.specs.Judgement.{IsJudgement}
-use Rattle.instance_io.specs.Refusal.{coordinates}
-use Rattle.text_defs.specs.Texts.{instance_text}
+use Rattle.plane.specs.Accepted.{AreAccepted}
+use Rattle.triangulate.specs.Start.{IsSortedStart}
+use Rattle.instance_io.specs.declared.instances.InstanceFault.{InstanceFault}
+use Rattle.instance_io.specs.Refusal.{coordinates, Gives, HasFault}
+use Rattle.solution_io.specs.Refusal.{ends}
+use Rattle.text_defs.specs.Instances.{instance_from}
+use Rattle.text_defs.specs.Texts.{instance_text, solution_text}
 use Rattle.generator.specs.declared.kinds.Kind.{Kind}
 use Rattle.generator.specs.Kinds.{AreMade}
 use Rattle.generator.specs.Names.{made_name}
 use Rattle.solver_top.specs.declared.words.Command.{Command}
-use Rattle.solver_top.specs.declared.words.Command.TheVariants.{Judge, Gen}
+use Rattle.solver_top.specs.declared.words.Command.TheVariants.{Judge, Start, Gen}
 use Rattle.solver_top.specs.declared.status.Verdict.{Verdict}
 use Rattle.solver_top.specs.declared.status.Verdict.TheVariants.{Done, No, Usage, Refused}
 use Rattle.solver_top.specs.declared.refusals.Refusal.{Refusal}
 use Rattle.solver_top.specs.Words.{IsLineOf, IsFaultAt}
 use Rattle.solver_top.specs.Lines.{usage_line, judgement_line}
-use Rattle.solver_top.specs.Bundles.{HasBundle, HasRefusal, refusal_line}
+use Rattle.solver_top.specs.Bundles.{HasBundle, HasRefusal, IsNamed, refusal_line}
+use Rattle.solver_top.specs.declared.refusals.Refusal.TheVariants.{Instance}
 
 -- the greatest input, in bytes
 abbrev pub most_input : ℕ
@@ -40,6 +46,19 @@ IsJudged input No text = (S : List Point) × (K : List Pair) × (j : Judgement) 
 IsJudged input Usage text = ⊥
 IsJudged input Refused text = IsRefused input text
 
+-- the refusal of an instance, printed
+abbrev pub IsRefusedInstance : List ℕ → List ℕ → Type 0
+IsRefusedInstance input text = (fault : InstanceFault) × IsNamed fault × HasFault (instance_from input) fault
+  × (text ≡ refusal_line (Instance fault))
+
+-- the sweep triangulation of the instance that an input is: exactly the sweep pairs, ascending, under the instance's name
+abbrev pub IsStarted : List ℕ → Verdict → List ℕ → Type 0
+IsStarted input Done text = (name : List ℕ) × (S : List Point) × (T : List Pair) × Gives (instance_from input) name S × AreAccepted S
+  × IsSortedStart S T × (text ≡ solution_text name (map ends T) ++ codes "\n")
+IsStarted input No text = ⊥
+IsStarted input Usage text = ⊥
+IsStarted input Refused text = IsRefusedInstance input text
+
 -- the instance made from a number, and an LF
 abbrev pub IsGenerated : Kind → (n seed : ℕ) → List ℕ → Type 0
 IsGenerated kind n seed text = (S : List Point) × AreMade kind n seed S
@@ -57,11 +76,13 @@ ReadsAll Answers input left verdict text =
 -- the numbers of a command are within their limits
 abbrev pub IsInRange : Command → Type 0
 IsInRange Judge = Unit {0}
+IsInRange Start = Unit {0}
 IsInRange (Gen kind n seed) = (3 ≤ n) × (n ≤ 5000)
 
 -- what a command answers, of the bytes that the source had left, with what it has left then
 abbrev pub IsAnswerOf : Command → List ℕ → Option (List ℕ) → Verdict → List ℕ → Type 0
 IsAnswerOf Judge input left verdict text = ReadsAll IsJudged input left verdict text
+IsAnswerOf Start input left verdict text = ReadsAll IsStarted input left verdict text
 IsAnswerOf (Gen kind n seed) input left verdict text = (left ≡ Some input) × (verdict ≡ Done) × IsGenerated kind n seed text
 
 -- words that are no line, with the position that is shown; nothing is read

@@ -5,7 +5,7 @@ use Rattle.std.specs.declared.alloc.Global.{Global}
 use Rattle.generator.specs.declared.kinds.Kind.{Kind}
 use Rattle.generator.specs.Names.{kind_word}
 use Rattle.solver_top.specs.declared.words.Command.{Command}
-use Rattle.solver_top.specs.declared.words.Command.TheVariants.{Judge, Gen}
+use Rattle.solver_top.specs.declared.words.Command.TheVariants.{Judge, Start, Gen}
 
 abbrev pub words_of : List (String Global) → List (List ℕ)
 words_of words = map string_bytes words
@@ -23,9 +23,12 @@ IsSeed word = (seed : ℕ) × (seed < 2 ^ 64) × (word ≡ decimal seed)
 abbrev pub Is : List ℕ → List ℕ → Type 0
 Is expected word = word ≡ expected
 
--- the lines: `judge`, and `gen KIND N SEED`
+-- the lines: `judge`, `start`, and `gen KIND N SEED`
 abbrev pub judge_line : List (List ℕ → Type 0)
 judge_line = Is (codes "judge") ∷ []
+
+abbrev pub start_line : List (List ℕ → Type 0)
+start_line = Is (codes "start") ∷ []
 
 abbrev pub gen_line : List (List ℕ → Type 0)
 gen_line = Is (codes "gen") ∷ IsKind ∷ IsCount ∷ IsSeed ∷ []
@@ -38,11 +41,12 @@ Begins (May ∷ line) (word ∷ words) = May word × Begins line words
 
 -- the words begin some line
 abbrev pub BeginsALine : List (List ℕ) → Type 0
-BeginsALine words = Begins judge_line words ⊎ Begins gen_line words
+BeginsALine words = Begins judge_line words ⊎ (Begins start_line words ⊎ Begins gen_line words)
 
 -- the words are the line of this command
 abbrev pub IsLineOf : List (List ℕ) → Command → Type 0
 IsLineOf words Judge = words ≡ codes "judge" ∷ []
+IsLineOf words Start = words ≡ codes "start" ∷ []
 IsLineOf words (Gen kind n seed) = (words ≡ codes "gen" ∷ kind_word kind ∷ decimal n ∷ decimal seed ∷ []) × (3 ≤ n) × (n ≤ 5000) × (seed < 2 ^ 64)
 
 -- The words are no line: k is the position of the first one that no line allows after those before it, or the number of

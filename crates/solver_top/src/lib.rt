@@ -8,6 +8,7 @@ mod judging;
 mod lines;
 mod refusals;
 mod running;
+mod starting;
 mod status;
 mod words;
 
@@ -17,6 +18,7 @@ pub use generating::generated;
 pub use judging::judged;
 pub use refusals::{BundleFault, Refusal, Unread};
 pub use running::{MOST_INPUT, run};
+pub use starting::started;
 pub use status::{Status, Verdict};
 pub use words::{Command, read_words};
 

@@ -6,12 +6,13 @@ ghost use Rattle.mcp_outside.specs.Bytes.{AppendsPrefix};
 ghost use Rattle.solver_top.specs.Words.{words_of};
 ghost use Rattle.solver_top.specs.Lines.{usage_line};
 ghost use Rattle.solver_top.specs.Statuses.{status_of};
-ghost use Rattle.solver_top.specs.Answers.{IsAnswer, IsAnswerOf, ReadsAll, IsJudged, IsInRange};
+ghost use Rattle.solver_top.specs.Answers.{IsAnswer, IsAnswerOf, ReadsAll, IsJudged, IsStarted, IsInRange};
 
 use crate::answers::Answer;
 use crate::generating::generated;
 use crate::judging::judged;
 use crate::lines::usage_line;
+use crate::starting::started;
 use crate::status::{Status, Verdict};
 use crate::words::{Command, read_words};
 use mcp_outside::{Gate, ReadEnd, Sink, Source, read_uncounted, write_all};
@@ -63,6 +64,7 @@ fn command_answer<I: Source>(alloc: Global, command: Command, input: &mut I) -> 
 {
     match command {
         Command::Judge => judge_answer(alloc, input),
+        Command::Start => start_answer(alloc, input),
         Command::Gen { kind, n, seed } => match generated(alloc, kind, n, seed) {
             Ok(answer) => Ok(answer),
             Err(_) => Err(Halt::NoMemory),
@@ -79,6 +81,24 @@ fn judge_answer<I: Source>(alloc: Global, input: &mut I) -> Result<Answer, Halt>
 {
     match read_uncounted(alloc, input, MOST_INPUT) {
         Ok(bytes) => match judged(alloc, bytes.as_slice()) {
+            Ok(answer) => Ok(answer),
+            Err(_) => Err(Halt::NoMemory),
+        },
+        Err(ReadEnd::TooLong) => too_long(alloc),
+        Err(ReadEnd::Failed) => Err(Halt::ReadFault),
+        Err(ReadEnd::NoMemory) => Err(Halt::NoMemory),
+    }
+}
+
+// What `start` answers to its input.
+fn start_answer<I: Source>(alloc: Global, input: &mut I) -> Result<Answer, Halt>
+    ensures later { I.faults input.old ≤ I.faults input.new }
+    ensures failed { IsErrOf result Halt.ReadFault → Rose (I.faults input.old) (I.faults input.new) }
+    ensures answer { (xs : List ℕ) → I.left input.old ≡ Some xs → IfOk result (λ answer.
+        ReadsAll IsStarted xs (I.left input.new) answer.verdict answer.text.items) }
+{
+    match read_uncounted(alloc, input, MOST_INPUT) {
+        Ok(bytes) => match started(alloc, bytes.as_slice()) {
             Ok(answer) => Ok(answer),
             Err(_) => Err(Halt::NoMemory),
         },

@@ -12,6 +12,8 @@ use itoa::Buffer;
 pub enum Command {
     /// `judge`: judges the bundle of an instance and a solution.
     Judge,
+    /// `start`: writes the sweep triangulation of an instance.
+    Start,
     /// `gen KIND N SEED`: writes an instance made from a number.
     Gen {
         /// The kind, by its word.
@@ -63,6 +65,7 @@ pub fn read_words(words: &[String]) -> Result<Command, usize>
         [] => Err(0),
         [first, rest @ ..] => match first.as_str() {
             "judge" => after_judge(rest),
+            "start" => after_start(rest),
             "gen" => after_gen(rest),
             _ => Err(0),
         },
@@ -76,6 +79,18 @@ fn after_judge(rest: &[String]) -> Result<Command, usize>
 {
     if rest.is_empty() {
         Ok(Command::Judge)
+    } else {
+        Err(1)
+    }
+}
+
+// What stands behind `start`.
+fn after_start(rest: &[String]) -> Result<Command, usize>
+    ensures ok { IfOk result (IsLineOf (codes "start" ∷ words_of rest.now)) }
+    ensures err { IfErr result (IsFaultAt (codes "start" ∷ words_of rest.now)) }
+{
+    if rest.is_empty() {
+        Ok(Command::Start)
     } else {
         Err(1)
     }

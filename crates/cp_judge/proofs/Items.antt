@@ -1,5 +1,5 @@
 -- Pairs at positions of a list, and the first violations among them.
-use Rattle.std.proofs.Common.{◌≡◌, ◌<◌, ⊎_elim, ℕ, min, max, MatchBool, Bool, true, false, not, List, length, slice_index_or, sym, ◌∙◌, subst, ap, refl, arith, ℤ, pos, ◌-ℤ◌, ◌*ℤ◌, ◌↔◌}
+use Rattle.std.proofs.Common.{◌≡◌, ◌<◌, ⊎_elim, ℕ, Bool, true, false, List, length, slice_index_or, sym, ◌∙◌, subst, ap, arith, ℤ, pos, ◌-ℤ◌, ◌*ℤ◌}
 use Rattle.std.proofs.lemmas.Bool.{false≢true, cases_order}
 use Rattle.std.proofs.lemmas.List.{get_or_default}
 use Rattle.std.proofs.lemmas.Int.{ints}
@@ -7,11 +7,11 @@ use Rattle.std.proofs.Math.IntN.{zero-*ℤ, *ℤ_comm}
 use Rattle.plane.specs.declared.coordinates.Point.{Point}
 use Rattle.plane.specs.declared.segment.Pair.{Pair, ordered-type}
 use Rattle.std.proofs.Math.Bridge.{le_prop}
-use Rattle.plane.specs.First.{IsLeast, IsFirstPair}
-use Rattle.plane.specs.Geometry.{area, point, IsBetween, IsClear, AreCrossing, AreOpposite, IsBorderPair}
-use Rattle.partition_defs.specs.Partition.{ArePlane, Joins, HasBorderFrom}
+use Rattle.plane.specs.First.{IsLeast}
+use Rattle.plane.specs.Geometry.{area, point, IsBetween, IsClear, AreCrossing, AreOpposite}
+use Rattle.partition_defs.specs.Partition.{ArePlane}
 use Rattle.partition_defs.specs.Triangulation.{AreDistinct}
-use Rattle.cp_judge.specs.Violation.{StandsAt, IsRepeatedAt, IsNotClear, AreCrossingAt, IsCrossing, IsMissing, IsMissingBorder, IsLeastMissingFrom}
+use Rattle.cp_judge.specs.Violation.{StandsAt, IsRepeatedAt, IsNotClear, AreCrossingAt, IsCrossing}
 
 pub refused : (b : Bool) (P : Type 0) → b ≡ false → (P → b ≡ true) → ¬ P
 refused b P e f p = false≢true (sym e ∙ f p)
@@ -105,36 +105,3 @@ pair_same e f h k =
     let R : ℕ → Type 0 = λ y. (p : ordered-type e.lo y) → made e.lo e.hi e.ordered ≡ made e.lo y p in
     let Q : ℕ → Type 0 = λ x. (p : ordered-type x f.hi) → made e.lo e.hi e.ordered ≡ made x f.hi p in
     subst Q h (subst R k (λ p. ap (λ (z : ordered-type e.lo e.hi). made e.lo e.hi z) (ordered_once e.lo e.hi e.ordered p))) f.ordered
-
--- what a refusing test and a search that refuses it mean
-pub decided_border : (b j : Bool) (B M : Type 0) → (b ≡ true ↔ B) → (j ≡ true ↔ M) → b ≡ true → MatchBool (not j) (B × ¬ M) (B → M)
-decided_border b true B M hb hj e = λ _. hj.0 refl
-decided_border b false B M hb hj e = (hb.0 e, λ m. false≢true (hj.1 m))
-
-pub matched_true : (b : Bool) (P Q : Type 0) → MatchBool b P Q → b ≡ true → P
-matched_true true P Q h e = h
-matched_true false P Q h e = absurd (false≢true e)
-
-pub matched_false : (b : Bool) (P Q : Type 0) → MatchBool b P Q → b ≡ false → Q
-matched_false true P Q h e = absurd (false≢true (sym e))
-matched_false false P Q h e = h
-
-pub not_missing : (S : List Point) (K : List Pair) (i j : ℕ) → (IsBorderPair S i j → Joins K i j) → ¬ IsMissing S K i j
-not_missing S K i j f m = m.1 (f m.0)
-
-pub missing_found : (S : List Point) (K : List Pair) (i j : ℕ) (e : Pair) → e.lo ≡ min i j → e.hi ≡ max i j
-    → IsLeastMissingFrom S K i j → ((k : ℕ) → k < i → HasBorderFrom S K k) → IsMissingBorder S K e
-missing_found S K i j e lo hi least before =
-    let lo' : i ≡ e.lo = omega (arith, least.0) in
-    let hi' : j ≡ e.hi = omega (arith, least.0) in
-    let P : ℕ → Type 0 = λ x. IsFirstPair (IsMissing S K) (length S) x e.hi in
-    let Q : ℕ → Type 0 = λ y. IsFirstPair (IsMissing S K) (length S) i y in
-    subst P lo' (subst Q hi' (record {
-      ordered = least.0;
-      within = least.1;
-      holds = least.2;
-      before = λ k m o n c. ⊎_elim (λ l. not_missing S K k m (before k l m o n))
-          (λ u. let R : ℕ → Type 0 = λ x. ¬ IsMissing S K x m in
-          let T : ℕ → Type 0 = λ x. x < m in
-          subst R (sym u.0) (least.3 m (subst T u.0 o) u.1)) c;
-    }))

@@ -89,10 +89,6 @@ unmet_from S K p M N (Some r) within none h least =
           least.before j m (u.0, false_unless (mark N j) (λ t. u.1 (marked_met S K p j M N within (none j l) (h j l) t)));
     }
 
-pub of_inner : (o : Option ℕ) (I A : Type 0) (B : ℕ → Type 0) → I → MatchOption o A B → MatchOption o (I → A) (λ q. I × B q)
-of_inner None I A B i h = λ _. h
-of_inner (Some q) I A B i h = (i, h)
-
 pub unmet_found : (S : List Point) (K : List Pair) (p q : ℕ) → p < length S → IsInner S p → IsLeast (IsUnmetAt S K p) (length S) q
     → ((j : ℕ) → j < p → IsInner S j → MeetsNeedsAt S K j) → IsUnmet S K p q
 unmet_found S K p q l inner least before = (

@@ -1,16 +1,18 @@
--- A point has one border step each way round, so two steps show all its border pairs.
-use Rattle.std.proofs.Common.{◌≡◌, ◌≢◌, ◌<◌, ◌≤◌, ◌⊎◌, ⊎_elim, inl, inr, ℕ, List, length, sym, ◌∙◌, subst, ap, arith, Option, Some, None, MatchOption}
-use Rattle.std.proofs.lemmas.Bool.{cases_order}
+-- Each border pair is the one border step, counterclockwise, from one of its ends.
+use Rattle.std.proofs.Common.{refl, ◌≡◌, ◌≢◌, ◌<◌, ◌≤◌, ◌+◌, ◌⊎◌, ⊎_elim, inl, inr, ℕ, List, length, sym, ◌∙◌, subst, ap, arith, Option, Some, None, MatchOption, min, max}
+use Rattle.std.proofs.lemmas.Bool.{cases_order, cases_lt}
 use Rattle.plane.specs.declared.coordinates.Point.{Point}
 use Rattle.plane.specs.declared.coordinates.Turn.{Turn}
-use Rattle.plane.specs.declared.coordinates.Turn.TheVariants.{Left, Straight, Right}
+use Rattle.plane.specs.declared.coordinates.Turn.TheVariants.{Left, Straight}
 use Rattle.plane.specs.declared.segment.Pair.{Pair}
+use Rattle.std.proofs.Math.Nat.{eq-or-lt_of_le}
+use Rattle.plane.specs.First.{ComesBefore}
 use Rattle.plane.specs.Accepted.{AreAccepted}
 use Rattle.plane.specs.Geometry.{IsBetween, IsBorderPair}
-use Rattle.plane.specs.Hull.{IsBorderStep, IsStepOrNone}
-use Rattle.plane.proofs.Outermost.{reaches, stays, leaves, not_all_in_line, step_of_border, border_of_left, border_of_right}
-use Rattle.partition_defs.specs.Partition.{Joins, HasBorderFrom}
-use Rattle.cp_judge.specs.Violation.{IsMissing, IsLeastMissingFrom, IsMissingStep, IsLesser}
+use Rattle.plane.specs.Hull.{IsBorderStep}
+use Rattle.plane.proofs.Outermost.{reaches, stays, leaves, not_all_in_line, border_of_left, clear_back}
+use Rattle.partition_defs.specs.Partition.{Joins, HasBorder}
+use Rattle.cp_judge.specs.Violation.{IsMissing, IsMissingBorder, IsMissingStep, IsMissingBelow, IsLesser}
 
 differ_not : (S : List Point) (side : Turn) (v w u : ℕ) → AreAccepted S → side ≢ Straight → v < length S
     → IsBorderStep S side v w → IsBorderStep S side v u → ¬ (w ≢ u)
@@ -27,58 +29,139 @@ step_once S side v w u accepted bent hv to also =
     (λ rest. absurd (differ_not S side v w u accepted bent hv to also (λ e. ⊎_elim (λ l. omega arith) (λ l. omega arith) rest)))
     (cases_order w u)
 
-the_step : (S : List Point) (side : Turn) (v w : ℕ) (s : Option ℕ) → AreAccepted S → side ≢ Straight → v < length S
-    → IsStepOrNone S side v s → IsBorderStep S side v w → s ≡ Some w
-the_step S side v w None accepted bent hv h step = absurd (h w step)
-the_step S side v w (Some u) accepted bent hv h step = ap Some (step_once S side v u w accepted bent hv h step)
-
 left_bent : Left ≢ Straight
 left_bent e = cc
 
-right_bent : Right ≢ Straight
-right_bent e = cc
+joins_back : (K : List Pair) (i j : ℕ) → Joins K i j → Joins K j i
+joins_back K i j h = (h.0, h.1, h.2, h.3, ⊎_elim (λ u. inr u) (λ u. inl u) h.4)
 
-border_shown : (S : List Point) (i j : ℕ) (s t : Option ℕ) → AreAccepted S → i < j → j < length S
-    → IsStepOrNone S Left i s → IsStepOrNone S Right i t → IsBorderPair S i j → (s ≡ Some j) ⊎ (t ≡ Some j)
-border_shown S i j s t accepted l m hs ht pair =
+border_back : (S : List Point) (i j : ℕ) → IsBorderPair S i j → IsBorderPair S j i
+border_back S i j h = (clear_back S i j h.0, ⊎_elim (λ u. inr u) (λ u. inl u) h.1)
+
+missing_back : (S : List Point) (K : List Pair) (i j : ℕ) → IsMissing S K i j → IsMissing S K j i
+missing_back S K i j h = (border_back S i j h.0, λ u. h.1 (joins_back K j i u))
+
+missing_ends : (S : List Point) (K : List Pair) (v w lo hi : ℕ) → lo ≡ min v w → hi ≡ max v w → IsMissing S K v w → IsMissing S K lo hi
+missing_ends S K v w lo hi el eh h =
+    let P : ℕ → ℕ → Type 0 = λ x y. IsMissing S K x y in
+    ⊎_elim
+    (λ l. let a : v ≡ lo = omega arith in let b : w ≡ hi = omega arith in subst (λ x. P x hi) a (subst (λ y. P v y) b h))
+    (λ l. let a : w ≡ lo = omega arith in let b : v ≡ hi = omega arith in subst (λ x. P x hi) a (subst (λ y. P w y) b (missing_back S K v w h)))
+    (cases_lt v w)
+
+pub step_missing : (S : List Point) (K : List Pair) (v w : ℕ) (e : Pair) → AreAccepted S → v < length S → IsBorderStep S Left v w
+    → ¬ Joins K v w → e.lo ≡ min v w → e.hi ≡ max v w → IsMissingStep S K v (Some e)
+step_missing S K v w e accepted hv step absent lo hi =
+    let hw = step.within in
+    let within : e.hi < length S = omega arith in (
+      within,
+      missing_ends S K v w e.lo e.hi lo hi (border_of_left S v w step, absent),
+      λ u also. let s : w ≡ u = step_once S Left v w u accepted left_bent hv step also in
+          (lo ∙ ap (λ x. min v x) s, hi ∙ ap (λ x. max v x) s),
+    )
+
+pub step_joined : (S : List Point) (K : List Pair) (v w : ℕ) → AreAccepted S → v < length S → IsBorderStep S Left v w
+    → Joins K v w → IsMissingStep S K v None
+step_joined S K v w accepted hv step h =
+    λ u also. let P : ℕ → Type 0 = λ x. Joins K v x in subst P (step_once S Left v w u accepted left_bent hv step also) h
+
+pub later_through : (k l i j m n : ℕ) → ¬ ComesBefore k l i j → ¬ ComesBefore i j m n → ¬ ComesBefore k l m n
+later_through k l i j m n h g (inl o) =
+    ⊎_elim (λ s. let P : ℕ → Type 0 = λ x. x < m in g (inl (subst P s o)))
+    (λ u. ⊎_elim (λ a. h (inl a)) (λ a. let b : i < m = omega arith in g (inl b)) u) (cases_order k i)
+later_through k l i j m n h g (inr o) =
+    ⊎_elim
+    (λ s. ⊎_elim (λ a. h (inr (s, a))) (λ a. let b : j < n = let c = o.1 in omega arith in g (inr (sym s ∙ o.0, b))) (cases_lt l j))
+    (λ u. ⊎_elim (λ a. h (inl a)) (λ a. let b : i < m = let c = o.0 in omega arith in g (inl b)) u) (cases_order k i)
+
+pub not_itself : (k l : ℕ) → ¬ ComesBefore k l k l
+not_itself k l h = ⊎_elim (λ a. omega arith) (λ a. let b = a.1 in omega arith) h
+
+pub not_both : (k l i j : ℕ) → ComesBefore k l i j → ¬ ComesBefore i j k l
+not_both k l i j (inl a) (inl b) = omega arith
+not_both k l i j (inl a) (inr b) = let c = b.0 in omega arith
+not_both k l i j (inr a) (inl b) = let c = a.0 in omega arith
+not_both k l i j (inr a) (inr b) = let c = a.1 in let d = b.1 in omega arith
+
+below_or_last : (v n : ℕ) → v < n + 1 → (v ≡ n) ⊎ (v < n)
+below_or_last v n l = let m : v ≤ n = omega arith in eq-or-lt_of_le m
+
+none_below : (S : List Point) (K : List Pair) (n : ℕ) (a : Option Pair) → IsMissingBelow S K n a → a ≡ None → (v w : ℕ) → v < n → IsBorderStep S Left v w → Joins K v w
+none_below S K n a h e = let P : Option Pair → Type 0 = λ o. IsMissingBelow S K n o in subst P e h
+
+none_step : (S : List Point) (K : List Pair) (n : ℕ) (b : Option Pair) → IsMissingStep S K n b → b ≡ None → (w : ℕ) → IsBorderStep S Left n w → Joins K n w
+none_step S K n b h e = let P : Option Pair → Type 0 = λ o. IsMissingStep S K n o in subst P e h
+
+not_before_below : (S : List Point) (K : List Pair) (n v w : ℕ) (a : Option Pair) (e : Pair) → IsMissingBelow S K n a
+    → ((f : Pair) → a ≡ Some f → ¬ ComesBefore f.lo f.hi e.lo e.hi) → v < n → IsBorderStep S Left v w → ¬ Joins K v w
+    → ¬ ComesBefore (min v w) (max v w) e.lo e.hi
+not_before_below S K n v w None e h g l step absent = absurd (absent (h v w l step))
+not_before_below S K n v w (Some f) e h g l step absent = later_through (min v w) (max v w) f.lo f.hi e.lo e.hi (h.2 v w l step absent) (g f refl)
+
+not_before_step : (S : List Point) (K : List Pair) (n w : ℕ) (b : Option Pair) (e : Pair) → IsMissingStep S K n b
+    → ((f : Pair) → b ≡ Some f → ¬ ComesBefore f.lo f.hi e.lo e.hi) → IsBorderStep S Left n w → ¬ Joins K n w
+    → ¬ ComesBefore (min n w) (max n w) e.lo e.hi
+not_before_step S K n w None e h g step absent = absurd (absent (h w step))
+not_before_step S K n w (Some f) e h g step absent =
+    let s = h.2 w step in
+    let P : ℕ → Type 0 = λ x. ComesBefore x (max n w) e.lo e.hi in
+    let Q : ℕ → Type 0 = λ y. ComesBefore f.lo y e.lo e.hi in
+    λ c. g f refl (subst Q (sym s.1) (subst P (sym s.0) c))
+
+pub missing_more : (S : List Point) (K : List Pair) (n : ℕ) (a b o : Option Pair) → IsMissingBelow S K n a → IsMissingStep S K n b → IsLesser a b o
+    → IsMissingBelow S K (n + 1) o
+missing_more S K n a b None ha hb h = λ v w l step.
+    ⊎_elim
+    (λ s. let P : ℕ → Type 0 = λ x. IsBorderStep S Left x w in
+    let Q : ℕ → Type 0 = λ x. Joins K x w in
+    subst Q (sym s) (none_step S K n b hb h.1 w (subst P s step)))
+    (λ m. none_below S K n a ha h.0 v w m step) (below_or_last v n l)
+missing_more S K n a b (Some e) ha hb h =
+    let A : Option Pair → Type 0 = λ o. IsMissingBelow S K n o in
+    let B : Option Pair → Type 0 = λ o. IsMissingStep S K n o in
+    let here : (e.hi < length S) × IsMissing S K e.lo e.hi =
+    ⊎_elim (λ s. let u = subst A s ha in (u.0, u.1)) (λ s. let u = subst B s hb in (u.0, u.1)) h.0 in (
+      here.0,
+      here.1,
+      λ v w l step absent.
+          ⊎_elim
+          (λ s. let P : ℕ → Type 0 = λ x. IsBorderStep S Left x w in
+          let N : ℕ → Type 0 = λ x. ¬ Joins K x w in
+          let R : ℕ → Type 0 = λ x. ¬ ComesBefore (min x w) (max x w) e.lo e.hi in
+          subst R (sym s) (not_before_step S K n w b e hb (λ f t. h.1 f (inr t)) (subst P s step) (subst N s absent)))
+          (λ m. not_before_below S K n v w a e ha (λ f t. h.1 f (inl t)) m step absent) (below_or_last v n l),
+    )
+
+step_from : (S : List Point) (i j : ℕ) → i < j → j < length S → IsBorderPair S i j → IsBorderStep S Left i j ⊎ IsBorderStep S Left j i
+step_from S i j l m pair =
     let hi : i < length S = omega arith in
     let ne : j ≢ i = λ e. omega arith in
-    ⊎_elim (λ h. inl (the_step S Left i j s accepted left_bent hi hs h)) (λ h. inr (the_step S Right i j t accepted right_bent hi ht h))
-    (step_of_border S i j m ne pair)
+    ⊎_elim (λ h. inl (record { within = m; apart = ne; clear = pair.0; all = h }))
+    (λ h. inr (record { within = hi; apart = λ e. ne (sym e); clear = clear_back S i j pair.0; all = h })) pair.1
 
-missing_is : (K : List Pair) (i k : ℕ) (s a : Option ℕ) → IsMissingStep K i s a → s ≡ Some k → i < k → ¬ Joins K i k → a ≡ Some k
-missing_is K i k s None h e l n = absurd (n (h k e l))
-missing_is K i k s (Some x) h e l n = sym h.0 ∙ e
+before_ends : (v w k l m n : ℕ) → k ≡ min v w → l ≡ max v w → ComesBefore k l m n → ComesBefore (min v w) (max v w) m n
+before_ends v w k l m n a b c =
+    let P : ℕ → Type 0 = λ x. ComesBefore x l m n in
+    let Q : ℕ → Type 0 = λ y. ComesBefore (min v w) y m n in
+    subst Q b (subst P a c)
 
-missing_of : (S : List Point) (K : List Pair) (i r : ℕ) (s a : Option ℕ) (side : Turn) → IsStepOrNone S side i s → IsMissingStep K i s a → a ≡ Some r
-    → IsBorderStep S side i r × (i < r) × ¬ Joins K i r
-missing_of S K i r s a side hs ha e =
-    let P : Option ℕ → Type 0 = λ o. IsMissingStep K i s o in
-    let h = subst P e ha in
-    let Q : Option ℕ → Type 0 = λ o. IsStepOrNone S side i o in
-    (subst Q h.0 hs, h.1, h.2)
-
-pub least_from : (S : List Point) (K : List Pair) (i : ℕ) (s t a b o : Option ℕ) → AreAccepted S
-    → IsStepOrNone S Left i s → IsStepOrNone S Right i t → IsMissingStep K i s a → IsMissingStep K i t b → IsLesser a b o
-    → MatchOption o (HasBorderFrom S K i) (IsLeastMissingFrom S K i)
-least_from S K i s t a b None accepted hs ht ha hb h =
-    let P : Option ℕ → Type 0 = λ o. IsMissingStep K i s o in
-    let Q : Option ℕ → Type 0 = λ o. IsMissingStep K i t o in
-    λ j l m pair. ⊎_elim (λ e. subst P h.0 ha j e l) (λ e. subst Q h.1 hb j e l) (border_shown S i j s t accepted l m hs ht pair)
-least_from S K i s t a b (Some r) accepted hs ht ha hb h =
-    let here : (r < length S) × (i < r) × IsMissing S K i r =
-    ⊎_elim
-    (λ e. let u = missing_of S K i r s a Left hs ha e in (u.0.within, u.1, (border_of_left S i r u.0, u.2)))
-    (λ e. let u = missing_of S K i r t b Right ht hb e in (u.0.within, u.1, (border_of_right S i r u.0, u.2)))
-    h.0 in (
-      here.1,
-      here.0,
-      here.2,
-      λ k l m u.
-          let w = here.0 in
-          let hk : k < length S = omega arith in
-          let late : r ≤ k =
-          h.1 k (⊎_elim (λ e. inl (missing_is K i k s a ha e l u.1)) (λ e. inr (missing_is K i k t b hb e l u.1))
-          (border_shown S i k s t accepted l hk hs ht u.0)) in
-          omega arith,
-    )
+pub missing_found : (S : List Point) (K : List Pair) (n : ℕ) (o : Option Pair) → length S ≤ n → IsMissingBelow S K n o
+    → MatchOption o (HasBorder S K) (IsMissingBorder S K)
+missing_found S K n None whole h = λ i j l m pair.
+    let hi : i < n = omega arith in
+    let hj : j < n = omega arith in
+    ⊎_elim (λ step. h i j hi step) (λ step. joins_back K j i (h j i hj step)) (step_from S i j l m pair)
+missing_found S K n (Some e) whole h = record {
+  ordered = e.ordered;
+  within = h.0;
+  holds = h.1;
+  before = λ k l o m c u.
+      let hk : k < n = omega arith in
+      let hl : l < n = omega arith in
+      let a : k ≡ min k l = omega arith in
+      let b : l ≡ max k l = omega arith in
+      let a' : k ≡ min l k = omega arith in
+      let b' : l ≡ max l k = omega arith in
+      ⊎_elim (λ step. h.2 k l hk step u.1 (before_ends k l k l e.lo e.hi a b c))
+      (λ step. h.2 l k hl step (λ t. u.1 (joins_back K l k t)) (before_ends l k k l e.lo e.hi a' b' c)) (step_from S k l o m u.0);
+}

@@ -1,9 +1,11 @@
 -- How a list of segments fails to be a convex partition: each kind's first case, with what it shows. (This project's own
 -- order.)
-use Rattle.std.specs.Prelude.{◌≡◌, ◌≢◌, ℕ, ◌<◌, List, length, slice_index_or, Option, Some, None, MatchOption, ◌≤◌, Bool, false, IsTrue, ◌↔◌, ◌⊎◌}
+use Rattle.std.specs.Prelude.{◌≡◌, ◌≢◌, ℕ, ◌<◌, List, length, slice_index_or, Option, Some, None, MatchOption, min, max, Bool, false, IsTrue, ◌↔◌, ◌⊎◌}
 use Rattle.plane.specs.declared.coordinates.Point.{Point}
 use Rattle.plane.specs.declared.segment.Pair.{Pair}
-use Rattle.plane.specs.First.{IsLeast, IsFirstPair}
+use Rattle.plane.specs.First.{IsLeast, IsFirstPair, ComesBefore}
+use Rattle.plane.specs.declared.coordinates.Turn.TheVariants.{Left}
+use Rattle.plane.specs.Hull.{IsBorderStep}
 use Rattle.plane.specs.Geometry.{IsBetween, AreCrossing, IsBorderPair, IsInner, IsInNeed}
 use Rattle.partition_defs.specs.Partition.{HasEnds, Joins, IsMet}
 
@@ -46,21 +48,26 @@ IsCrossing S K e f =
 abbrev pub IsMissing : List Point → List Pair → (i j : ℕ) → Type 0
 IsMissing S K i j = IsBorderPair S i j × ¬ Joins K i j
 
--- j is the least index above i with which i is a border pair that isn't in the set
-abbrev pub IsLeastMissingFrom : List Point → List Pair → (i j : ℕ) → Type 0
-IsLeastMissingFrom S K i j =
-    (i < j) × (j < length S) × IsMissing S K i j × ((k : ℕ) → i < k → k < j → ¬ IsMissing S K i k)
+-- o is the border pair of the step from v counterclockwise, where it isn't in the set, or none
+abbrev pub IsMissingStep : List Point → List Pair → ℕ → Option Pair → Type 0
+IsMissingStep S K v o =
+    MatchOption o ((w : ℕ) → IsBorderStep S Left v w → Joins K v w)
+    (λ e. (e.hi < length S) × IsMissing S K e.lo e.hi
+    × ((w : ℕ) → IsBorderStep S Left v w → (e.lo ≡ min v w) × (e.hi ≡ max v w)))
 
--- o is the end of a step from i, where it is larger and the pair isn't in the set, or none
-abbrev pub IsMissingStep : List Pair → ℕ → (step o : Option ℕ) → Type 0
-IsMissingStep K i step o =
-    MatchOption o ((w : ℕ) → step ≡ Some w → i < w → Joins K i w) (λ w. (step ≡ Some w) × (i < w) × ¬ Joins K i w)
+-- o is the least pair of the steps from the points below n that isn't in the set, or none
+abbrev pub IsMissingBelow : List Point → List Pair → ℕ → Option Pair → Type 0
+IsMissingBelow S K n o =
+    MatchOption o ((v w : ℕ) → v < n → IsBorderStep S Left v w → Joins K v w)
+    (λ e. (e.hi < length S) × IsMissing S K e.lo e.hi
+    × ((v w : ℕ) → v < n → IsBorderStep S Left v w → ¬ Joins K v w → ¬ ComesBefore (min v w) (max v w) e.lo e.hi))
 
 -- o is the lesser one of a and b
-abbrev pub IsLesser : (a b o : Option ℕ) → Type 0
+abbrev pub IsLesser : (a b o : Option Pair) → Type 0
 IsLesser a b o =
     MatchOption o ((a ≡ None) × (b ≡ None))
-    (λ r. ((a ≡ Some r) ⊎ (b ≡ Some r)) × ((x : ℕ) → (a ≡ Some x) ⊎ (b ≡ Some x) → r ≤ x))
+    (λ e. ((a ≡ Some e) ⊎ (b ≡ Some e))
+    × ((f : Pair) → (a ≡ Some f) ⊎ (b ≡ Some f) → ¬ ComesBefore f.lo f.hi e.lo e.hi))
 
 -- e is the least border pair that isn't in the set
 abbrev pub IsMissingBorder : List Point → List Pair → Pair → Type 0

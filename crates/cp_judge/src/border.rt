@@ -1,52 +1,65 @@
-// Border pairs that are missing.
-ghost use Rattle.std.specs.Prelude.{◌<◌, length, MatchOption};
-ghost use Rattle.partition_defs.specs.Partition.{HasBorder, HasBorderFrom};
-ghost use Rattle.cp_judge.specs.Violation.{IsMissingBorder, IsLeastMissingFrom, IsMissingStep, IsLesser};
+// Border pairs that are missing. Each border pair is the step from one of its ends to the next point on the border,
+// counterclockwise, so one walk over the points meets them all.
+ghost use Rattle.std.specs.Prelude.{◌≡◌, ◌<◌, ◌↔◌, ◌⊎◌, length, IsTrue, MatchOption};
+ghost use Rattle.plane.specs.First.{ComesBefore};
+ghost use Rattle.partition_defs.specs.Partition.{HasBorder};
+ghost use Rattle.cp_judge.specs.Violation.{IsMissingBorder, IsMissingStep, IsLesser};
 
 use partition_defs::joins;
 use plane::{Pair, Points};
 
-// A border step's end, where it is the larger index and the pair isn't in the list.
-fn missing_step(list: &[Pair], i: u32, step: Option<u32>) -> Option<u32>
-    ensures { IsMissingStep list.now i step result }
+// Whether the first pair comes before the second.
+fn comes_before(e: Pair, f: Pair) -> bool
+    ensures { IsTrue result ↔ ComesBefore e.lo e.hi f.lo f.hi }
 {
-    let w = step?;
-    if i < w && !joins(list, i, w) {
-        return Some(w);
-    }
-    None
+    e.lo() < f.lo() || (e.lo() == f.lo() && e.hi() < f.hi())
 }
 
-// The lesser one of two numbers, either of which may be none.
-fn lesser(a: Option<u32>, b: Option<u32>) -> Option<u32>
+// The lesser one of two pairs.
+fn earlier(e: Pair, f: Pair) -> Pair
+    ensures one { (result ≡ e) ⊎ (result ≡ f) }
+    ensures first { ¬ ComesBefore e.lo e.hi result.lo result.hi }
+    ensures second { ¬ ComesBefore f.lo f.hi result.lo result.hi }
+{
+    if comes_before(f, e) { f } else { e }
+}
+
+// The lesser one of two pairs, either of which may be none.
+fn lesser(a: Option<Pair>, b: Option<Pair>) -> Option<Pair>
     ensures { IsLesser a b result }
 {
     match (a, b) {
-        (Some(x), Some(y)) => Some(x.min(y)),
-        (Some(x), None) => Some(x),
-        (None, y) => y,
+        (Some(e), Some(f)) => Some(earlier(e, f)),
+        (Some(e), None) => Some(e),
+        (None, f) => f,
     }
 }
 
-// The least larger index with which this one is a border pair that isn't in the list, or none.
-fn least_missing_from(points: &Points, list: &[Pair], i: u32) -> Option<u32>
-    requires { i < length points.now }
-    ensures { MatchOption result (HasBorderFrom points.now list.now i) (IsLeastMissingFrom points.now list.now i) }
+// The border pair of the step from this point, where it isn't in the list.
+fn missing_step(points: &Points, list: &[Pair], v: u32) -> Option<Pair>
+    requires { v < length points.now }
+    ensures { IsMissingStep points.now list.now v result }
 {
     let _count = points.len();
-    let after = missing_step(list, i, points.border_after(i));
-    let before = missing_step(list, i, points.border_before(i));
-    lesser(after, before)
+    match points.border_after(v) {
+        None => None,
+        Some(w) => {
+            if joins(list, v, w) {
+                None
+            } else {
+                Some(Pair::of(v, w))
+            }
+        }
+    }
 }
 
 /// The least border pair that isn't in the list, or none.
 pub fn first_missing_border(points: &Points, list: &[Pair]) -> Option<Pair>
     ensures { MatchOption result (HasBorder points.now list.now) (IsMissingBorder points.now list.now) }
 {
-    for i in 0..points.len() {
-        if let Some(j) = least_missing_from(points, list, i) {
-            return Some(Pair::of(i, j));
-        }
+    let mut least = None;
+    for v in 0..points.len() {
+        least = lesser(least, missing_step(points, list, v));
     }
-    None
+    least
 }

@@ -92,16 +92,14 @@ fn first_unmet_at(points: &Points, list: &[Pair], p: u32) -> Option<u32>
     first_unmarked(&marks, count, p)
 }
 
-// The same for an inner point, and none for another.
+// The same for an inner point, and none for another. Whether it is one is asked last, since it takes the longest.
 fn first_unmet_of(points: &Points, list: &[Pair], p: u32) -> Option<u32>
     requires within { AreWithin points.now list.now }
     requires p_in { p < length points.now }
     ensures { MatchOption result (IsInner points.now p → MeetsNeedsAt points.now list.now p) (λ q. IsInner points.now p × IsLeast (IsUnmetAt points.now list.now p) (length points.now) q) }
 {
-    if !points.is_inner(p) {
-        return None;
-    }
-    first_unmet_at(points, list, p)
+    let q = first_unmet_at(points, list, p)?;
+    if points.is_inner(p) { Some(q) } else { None }
 }
 
 /// The least inner point with a need that isn't met, and the least point for which it isn't, or none.

@@ -1,5 +1,5 @@
 -- The text of an instance in parts.
-use Rattle.std.proofs.Common.{◌≡◌, ℕ, ◌+◌, ◌<◌, ◌≤◌, List, [], ◌∷◌, ◌++◌, length, map, drop, get_or, nat_lt, Bool, true, false, codes, decimal, refl, sym, ap, ◌∙◌, append_assoc, arith, ℤ, pos}
+use Rattle.std.proofs.Common.{◌≡◌, ℕ, ◌+◌, ◌<◌, ◌≤◌, List, [], ◌∷◌, ◌++◌, length, map, drop, nat_lt, Bool, true, false, codes, decimal, refl, sym, ap, ◌∙◌, append_assoc, arith, ℤ, pos}
 use Rattle.std.specs.List.{enumerate_from}
 use Rattle.std.proofs.lemmas.List.{drop_more, drop_all, length-map, get_or-map}
 use Rattle.json.specs.Print.{quoted, escape_byte}

@@ -6,3 +6,4 @@ pub mod Places
 pub mod Placed
 pub mod Parts
 pub mod InstanceText
+pub mod Exact

@@ -2,7 +2,7 @@
 use Rattle.std.proofs.Common.{◌≡◌, ℕ, ◌<◌, List, [], ◌∷◌, length, map, Option, Some, None, Result, Ok, Err, Bool, true, false, Vec, Global, vec_len, MatchResult, IfOk, codes, refl, sym, ap, ◌∙◌, subst, arith, ℤ}
 use Rattle.std.proofs.lemmas.List.{length-map}
 use Rattle.std.proofs.lemmas.List.FromFn.{length-map-range_with_len}
-use Rattle.serde_json.specs.Data.{Data, Items}
+use Rattle.serde_json.specs.Data.{Data}
 use Rattle.serde_json.specs.View.{view, items_of, items_view}
 use Rattle.serde_json.specs.declared.value.Value.{Value}
 use Rattle.plane.specs.declared.coordinates.Point.{Point}
@@ -86,13 +86,19 @@ points_short vs (Err f) l h = tt
 
 -- ---- the instance
 
-pub by_name : (d : Data) (f : InstanceFault) → Tells f (error (name_in d)) → HasFault (instance_in d) f
+pub name_fails : (d : Data) (f : InstanceFault) → Tells f (error (name_in d)) → Tells f (error (instance_in d))
 unfolding instance_in
-by_name d f h = told (instance_in d) f (carry f _ _ (λ x e. error_first (name_in d) _ x e) h)
+name_fails d f h = carry f _ _ (λ x e. error_first (name_in d) _ x e) h
+
+pub points_fail : (d : Data) (name : List ℕ) (f : InstanceFault) → name_in d ≡ Ok name → Tells f (error (points_in d)) → Tells f (error (instance_in d))
+unfolding instance_in
+points_fail d name f n h = carry f _ _ (λ x e. rw n (error_first (points_in d) _ x e)) h
+
+pub by_name : (d : Data) (f : InstanceFault) → Tells f (error (name_in d)) → HasFault (instance_in d) f
+by_name d f h = told (instance_in d) f (name_fails d f h)
 
 pub by_points : (d : Data) (name : List ℕ) (f : InstanceFault) → name_in d ≡ Ok name → Tells f (error (points_in d)) → HasFault (instance_in d) f
-unfolding instance_in
-by_points d name f n h = told (instance_in d) f (carry f _ _ (λ x e. rw n (error_first (points_in d) _ x e)) h)
+by_points d name f n h = told (instance_in d) f (points_fail d name f n h)
 
 pub gives : (d : Data) (name : List ℕ) (points : List (ℤ × ℤ)) → name_in d ≡ Ok name → points_in d ≡ Ok points → instance_in d ≡ Ok (name, points)
 unfolding instance_in

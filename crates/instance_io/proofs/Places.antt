@@ -1,16 +1,15 @@
 -- The first place with a property, and the places taken by indices.
-use Rattle.std.proofs.Common.{◌≡◌, ◌≢◌, ◌⊎◌, ℕ, zero, suc, ◌+◌, ◌-◌, ◌<◌, ◌≤◌, List, [], ◌∷◌, ◌++◌, length, map, take, set, get_or, nat_lt, nat_eq, ltb, eqb, Option, Some, None, cond, Bool, true, false, not, ◌||◌, refl, sym, ap, ◌∙◌, inl, inr, subst, arith, unwrap_or, option_map, option_and_then, ℤ, pos, negsuc}
-use Rattle.std.specs.List.{position, position_or_len, list_any, find, slice_get, range_with_len}
+use Rattle.std.proofs.Common.{◌≡◌, ◌≢◌, ◌⊎◌, ℕ, zero, suc, ◌+◌, ◌<◌, ◌≤◌, List, [], ◌∷◌, ◌++◌, length, map, take, set, get_or, nat_lt, eqb, Option, Some, None, cond, Bool, true, false, not, ◌||◌, refl, sym, ap, ◌∙◌, inl, inr, arith, unwrap_or, option_map, option_and_then, ℤ, pos, negsuc}
+use Rattle.std.specs.List.{position, position_or_len, list_any, range_with_len}
 use Rattle.std.proofs.lemmas.Bool.{cases_eq, cases_lt}
-use Rattle.std.proofs.lemmas.Grind.{common_steps}
 use Rattle.std.proofs.lemmas.List.{take_more, take_all, map-append, get_or-map, length-map, get_or-set_same, get_or-set_other}
 use Rattle.std.proofs.lemmas.List.Sums.{position_or_len_is}
-use Rattle.std.proofs.lemmas.List.Folds.{list_any-append, find-append}
+use Rattle.std.proofs.lemmas.List.Folds.{list_any-append}
 use Rattle.std.proofs.lemmas.List.FromFn.{length-range_with_len, get_or-range_with_len}
 use Rattle.serde_json.specs.Data.{Data, null}
 use Rattle.serde_json.specs.View.{view}
 use Rattle.serde_json.specs.declared.value.Value.{Value}
-use Rattle.text_defs.specs.Instances.{below, index_in, whole_at, item_at, has_this_index, has_bad_index, bad_index, index_fault, not_whole, bad_point, point_fault, is_point, has_both, point_of}
+use Rattle.text_defs.specs.Instances.{below, index_in, item_at, has_this_index, has_bad_index, bad_index, index_fault, not_whole, bad_point, point_fault, is_point, has_both, point_of}
 use Rattle.instance_io.specs.Told.{is_seen, Tells, lack_of}
 use Rattle.instance_io.specs.Refusal.{coordinates}
 use Rattle.plane.specs.declared.coordinates.Point.{Point}

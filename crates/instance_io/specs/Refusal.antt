@@ -1,5 +1,5 @@
 -- When a text is refused.
-use Rattle.std.specs.Prelude.{◌≡◌, ℕ, List, map, ℤ, Option, None, Result, Ok, Err}
+use Rattle.std.specs.Prelude.{◌≡◌, ◌≢◌, ◌↔◌, ℕ, List, map, ℤ, Option, None, Result, Ok, Err}
 use Rattle.serde_json.specs.Data.{Data}
 use Rattle.plane.specs.declared.coordinates.Point.{Point}
 use Rattle.plane.specs.Accepted.{IsFault}
@@ -49,3 +49,7 @@ HasFault reading NoMemory = Unit {0}
 abbrev pub IsRead : Result (List ℕ × List (ℤ × ℤ)) Fault → Result Instance InstanceFault → Type 0
 IsRead reading (Ok instance) = Gives reading instance.name instance.points
 IsRead reading (Err fault) = HasFault reading fault
+
+-- each fault comes exactly where the reading has it, want of memory aside
+abbrev pub IsExact : Result (List ℕ × List (ℤ × ℤ)) Fault → Result Instance InstanceFault → Type 0
+IsExact reading result = result ≢ Err NoMemory → (fault : InstanceFault) → fault ≢ NoMemory → (result ≡ Err fault) ↔ HasFault reading fault

@@ -1,5 +1,5 @@
 -- For private clauses: the faults of the parts of a value.
-use Rattle.std.specs.Prelude.{◌≡◌, Bool, true, ℕ, List, option_map, unwrap_or, if◌then◌else◌, Option, Some, None, Result, Ok, Err, slice_index_or, false, ◌||◌}
+use Rattle.std.specs.Prelude.{◌≡◌, Bool, true, ℕ, List, option_map, unwrap_or, if◌then◌else◌, Option, Some, None, Result, Ok, Err, slice_index_or, false}
 use Rattle.serde_json.specs.Data.{Data}
 use Rattle.text_defs.specs.Instances.{Fault, not_json, no_name, long_name, no_points, bad_point, not_whole, mixed_index, bad_index, index_in, has_both}
 use Rattle.instance_io.specs.declared.instances.InstanceFault.{InstanceFault}

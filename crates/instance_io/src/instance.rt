@@ -4,7 +4,7 @@ ghost use Rattle.serde_json.specs.View.{view, items_view};
 ghost use Rattle.serde_json.specs.Find.{get, as_str};
 ghost use Rattle.text_defs.specs.Steps.{array_at};
 ghost use Rattle.text_defs.specs.Instances.{name_in, points_in, instance_in, instance_from};
-ghost use Rattle.instance_io.specs.Refusal.{IsRead, coordinates};
+ghost use Rattle.instance_io.specs.Refusal.{IsRead, IsExact, coordinates};
 ghost use Rattle.instance_io.specs.Told.{Tells, IsLongName, error};
 
 use crate::instances::{Instance, InstanceFault};
@@ -18,7 +18,8 @@ use std::alloc::Global;
 /// The instance that a value is, or its first fault, in the order in which the faults stand in `InstanceFault`.
 /// Other keys are ignored. (This project's own, after the challenge's files.)
 pub fn instance_of(alloc: Global, value: &Value) -> Result<Instance, InstanceFault>
-    ensures { IsRead (instance_in (view value.now)) result }
+    ensures answer { IsRead (instance_in (view value.now)) result }
+    ensures exact { IsExact (instance_in (view value.now)) result }
 {
     let name = match name_of(alloc, value) {
         Ok(name) => name,
@@ -103,7 +104,8 @@ pub fn array_at<'v>(value: &'v Value, key: &str) -> Option<&'v [Value]>
 
 /// The instance that a text is, or its first fault, in the order in which the faults stand in `InstanceFault`.
 pub fn read_instance(alloc: Global, bytes: &[u8]) -> Result<Instance, InstanceFault>
-    ensures { IsRead (instance_from bytes.now) result }
+    ensures answer { IsRead (instance_from bytes.now) result }
+    ensures exact { IsExact (instance_from bytes.now) result }
 {
     match read_value(alloc, bytes) {
         Ok(value) => instance_of(alloc, &value),

@@ -172,24 +172,78 @@ fn faults_have_their_places(rt: HostRuntime) {
         (b"{\"name\":1,\"points\":[]}", InstanceFault::NoName),
         (b"{\"name\":\"\"}", InstanceFault::NoPoints),
         (b"{\"name\":\"\",\"points\":{}}", InstanceFault::NoPoints),
-        (b"{\"name\":\"\",\"points\":[{\"x\":1,\"y\":2},{\"x\":1}]}", InstanceFault::BadPoint(1)),
-        (b"{\"name\":\"\",\"points\":[{\"x\":1,\"y\":2},7,{\"x\":1,\"y\":null}]}", InstanceFault::BadPoint(1)),
-        (b"{\"name\":\"\",\"points\":[{\"x\":1,\"y\":null},7]}", InstanceFault::NotWhole(0)),
-        (b"{\"name\":\"w\",\"points\":[{\"x\":0,\"y\":0},{\"x\":12,\"y\":12.5},{\"x\":0,\"y\":5}]}", InstanceFault::NotWhole(1)),
-        (b"{\"name\":\"w\",\"points\":[{\"x\":0,\"y\":0},{\"x\":12,\"y\":1e3},{\"x\":0,\"y\":5}]}", InstanceFault::NotWhole(1)),
-        (b"{\"name\":\"w\",\"points\":[{\"x\":0,\"y\":0},{\"x\":12,\"y\":99999999999999999999},{\"x\":0,\"y\":5}]}", InstanceFault::Bad(BadPoints::TooFar(1))),
-        (b"{\"name\":\"w\",\"points\":[{\"x\":0,\"y\":0},{\"x\":12,\"y\":-99999999999999999999},{\"x\":0,\"y\":5}]}", InstanceFault::Bad(BadPoints::TooFar(1))),
-        (b"{\"name\":\"\",\"points\":[{\"x\":-1073741823,\"y\":-1073741823},{\"x\":1073741823,\"y\":-1073741823},{\"x\":-1073741823,\"y\":1073741824}]}", InstanceFault::Bad(BadPoints::TooFar(2))),
-        (b"{\"name\":\"\",\"points\":[{\"x\":1,\"y\":1},{\"i\":1,\"x\":2,\"y\":1}]}", InstanceFault::MixedIndex(1)),
-        (b"{\"name\":\"\",\"points\":[{\"i\":5,\"x\":1,\"y\":1},{\"x\":2,\"y\":1}]}", InstanceFault::MixedIndex(1)),
-        (b"{\"name\":\"\",\"points\":[{\"i\":1,\"x\":1,\"y\":1},{\"i\":2,\"x\":2,\"y\":1}]}", InstanceFault::BadIndex(1)),
-        (b"{\"name\":\"\",\"points\":[{\"i\":1,\"x\":1,\"y\":1},{\"i\":1,\"x\":2,\"y\":1}]}", InstanceFault::BadIndex(1)),
-        (b"{\"name\":\"\",\"points\":[{\"i\":-1,\"x\":1,\"y\":1}]}", InstanceFault::BadIndex(0)),
-        (b"{\"name\":\"\",\"points\":[{\"i\":0.5,\"x\":1,\"y\":1}]}", InstanceFault::BadIndex(0)),
-        (b"{\"name\":\"\",\"points\":[]}", InstanceFault::Bad(BadPoints::TooFew(0))),
-        (b"{\"name\":\"\",\"points\":[{\"x\":0,\"y\":0},{\"x\":1,\"y\":1}]}", InstanceFault::Bad(BadPoints::TooFew(2))),
-        (b"{\"name\":\"\",\"points\":[{\"x\":0,\"y\":0},{\"x\":1,\"y\":1},{\"x\":0,\"y\":0}]}", InstanceFault::Bad(BadPoints::SamePlace(0, 2))),
-        (b"{\"name\":\"\",\"points\":[{\"x\":0,\"y\":0},{\"x\":1,\"y\":1},{\"x\":2,\"y\":2},{\"x\":3,\"y\":3},{\"x\":4,\"y\":4}]}", InstanceFault::Bad(BadPoints::OneLine)),
+        (
+            b"{\"name\":\"\",\"points\":[{\"x\":1,\"y\":2},{\"x\":1}]}",
+            InstanceFault::BadPoint(1),
+        ),
+        (
+            b"{\"name\":\"\",\"points\":[{\"x\":1,\"y\":2},7,{\"x\":1,\"y\":null}]}",
+            InstanceFault::BadPoint(1),
+        ),
+        (
+            b"{\"name\":\"\",\"points\":[{\"x\":1,\"y\":null},7]}",
+            InstanceFault::NotWhole(0),
+        ),
+        (
+            b"{\"name\":\"w\",\"points\":[{\"x\":0,\"y\":0},{\"x\":12,\"y\":12.5},{\"x\":0,\"y\":5}]}",
+            InstanceFault::NotWhole(1),
+        ),
+        (
+            b"{\"name\":\"w\",\"points\":[{\"x\":0,\"y\":0},{\"x\":12,\"y\":1e3},{\"x\":0,\"y\":5}]}",
+            InstanceFault::NotWhole(1),
+        ),
+        (
+            b"{\"name\":\"w\",\"points\":[{\"x\":0,\"y\":0},{\"x\":12,\"y\":99999999999999999999},{\"x\":0,\"y\":5}]}",
+            InstanceFault::Bad(BadPoints::TooFar(1)),
+        ),
+        (
+            b"{\"name\":\"w\",\"points\":[{\"x\":0,\"y\":0},{\"x\":12,\"y\":-99999999999999999999},{\"x\":0,\"y\":5}]}",
+            InstanceFault::Bad(BadPoints::TooFar(1)),
+        ),
+        (
+            b"{\"name\":\"\",\"points\":[{\"x\":-1073741823,\"y\":-1073741823},{\"x\":1073741823,\"y\":-1073741823},{\"x\":-1073741823,\"y\":1073741824}]}",
+            InstanceFault::Bad(BadPoints::TooFar(2)),
+        ),
+        (
+            b"{\"name\":\"\",\"points\":[{\"x\":1,\"y\":1},{\"i\":1,\"x\":2,\"y\":1}]}",
+            InstanceFault::MixedIndex(1),
+        ),
+        (
+            b"{\"name\":\"\",\"points\":[{\"i\":5,\"x\":1,\"y\":1},{\"x\":2,\"y\":1}]}",
+            InstanceFault::MixedIndex(1),
+        ),
+        (
+            b"{\"name\":\"\",\"points\":[{\"i\":1,\"x\":1,\"y\":1},{\"i\":2,\"x\":2,\"y\":1}]}",
+            InstanceFault::BadIndex(1),
+        ),
+        (
+            b"{\"name\":\"\",\"points\":[{\"i\":1,\"x\":1,\"y\":1},{\"i\":1,\"x\":2,\"y\":1}]}",
+            InstanceFault::BadIndex(1),
+        ),
+        (
+            b"{\"name\":\"\",\"points\":[{\"i\":-1,\"x\":1,\"y\":1}]}",
+            InstanceFault::BadIndex(0),
+        ),
+        (
+            b"{\"name\":\"\",\"points\":[{\"i\":0.5,\"x\":1,\"y\":1}]}",
+            InstanceFault::BadIndex(0),
+        ),
+        (
+            b"{\"name\":\"\",\"points\":[]}",
+            InstanceFault::Bad(BadPoints::TooFew(0)),
+        ),
+        (
+            b"{\"name\":\"\",\"points\":[{\"x\":0,\"y\":0},{\"x\":1,\"y\":1}]}",
+            InstanceFault::Bad(BadPoints::TooFew(2)),
+        ),
+        (
+            b"{\"name\":\"\",\"points\":[{\"x\":0,\"y\":0},{\"x\":1,\"y\":1},{\"x\":0,\"y\":0}]}",
+            InstanceFault::Bad(BadPoints::SamePlace(0, 2)),
+        ),
+        (
+            b"{\"name\":\"\",\"points\":[{\"x\":0,\"y\":0},{\"x\":1,\"y\":1},{\"x\":2,\"y\":2},{\"x\":3,\"y\":3},{\"x\":4,\"y\":4}]}",
+            InstanceFault::Bad(BadPoints::OneLine),
+        ),
     ];
     for (text, want) in table {
         let same = match written(&rt, text) {

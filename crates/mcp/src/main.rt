@@ -27,6 +27,13 @@ fn main(rt: HostRuntime) -> ExitCode {
     };
     let mut input = StdSource::make(rt.stdin());
     let mut out = StdSink::make(rt.stdout());
-    let status = run(&rt, rt.alloc(), words.as_slice(), &mut input, &mut out, &OpenGate);
+    let status = run(
+        &rt,
+        rt.alloc(),
+        words.as_slice(),
+        &mut input,
+        &mut out,
+        &OpenGate,
+    );
     ExitCode::from(number(status))
 }

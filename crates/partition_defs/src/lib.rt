@@ -199,3 +199,6 @@ pub fn is_convex_partition_plain(points: &Points, list: &[Pair]) -> bool
     }
     meets_needs(points, list)
 }
+
+#[cfg(test)]
+mod tests;

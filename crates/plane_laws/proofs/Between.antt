@@ -1,15 +1,15 @@
 -- What is between two points, by the order of points.
-use Rattle.std.proofs.Common.{◌≡◌, ℕ, ℤ, pos, ◌+ℤ◌, ◌-ℤ◌, ◌*ℤ◌, neg_ℤ, arith, sym, ◌∙◌, refl, ap, inl, inr, ◌⊎◌}
-use Rattle.std.specs.Prelude.{◌<ℤ◌, ◌≤ℤ◌}
-use Rattle.std.proofs.Math.IntN.{*ℤ_comm, zero-*ℤ}
+use Rattle.std.proofs.Common.{◌≡◌, ℤ, pos, ◌+ℤ◌, ◌-ℤ◌, ◌*ℤ◌, neg_ℤ, arith, sym, ◌∙◌, refl, ap, inl, inr}
+use Rattle.std.specs.Prelude.{◌<ℤ◌}
+use Rattle.std.proofs.Math.IntN.{*ℤ_comm}
 use Rattle.std.proofs.lemmas.Int.{ints}
 use Rattle.plane.specs.declared.coordinates.Point.{Point}
 use Rattle.plane.specs.Geometry.{area, scalar}
-use Rattle.plane.proofs.Determinant.{mul_differences, mul_neg}
+use Rattle.plane.proofs.Determinant.{mul_neg}
 use Rattle.plane_laws.specs.Order.{IsBefore}
-use Rattle.plane_laws.proofs.Products.{cross, mul_weak, mul_strict, sub_mul}
+use Rattle.plane_laws.proofs.Products.{cross, mul_strict}
 use Rattle.plane_laws.proofs.Steps.{Ahead, by_sign, cancel_strict, nil_left, nil_right}
-use Rattle.plane_laws.proofs.Orientations.{ahead, area_swap, area_cycle}
+use Rattle.plane_laws.proofs.Orientations.{ahead, area_swap}
 
 dot : (ax ay bx by : ℤ) → ℤ
 dot ax ay bx by = ax *ℤ bx +ℤ ay *ℤ by
@@ -24,13 +24,13 @@ dot_both : (ux uy wx wy : ℤ) → pos 0 <ℤ ux → pos 0 <ℤ wx → cross ux 
 unfolding dot
 dot_both ux uy wx wy hu hw h =
     by_sign uy
-        (λ s. let t : pos 0 <ℤ (uy *ℤ wx) = mul_strict uy wx s hw in
-              let v : pos 0 <ℤ wy = cancel_strict ux wy hu (omega (arith, ints)) in
-              omega (arith, ints, mul_strict ux wx hu hw, mul_strict uy wy s v))
-        (λ s. omega (arith, ints, mul_strict ux wx hu hw, nil_left uy wy s))
-        (λ s. let t : pos 0 <ℤ (neg_ℤ uy *ℤ wx) = mul_strict (neg_ℤ uy) wx (omega (arith, ints)) hw in
-              let v : pos 0 <ℤ neg_ℤ wy = cancel_strict ux (neg_ℤ wy) hu (omega (arith, ints, neg_mul uy wx, mul_neg ux wy)) in
-              omega (arith, ints, mul_strict ux wx hu hw, mul_strict (neg_ℤ uy) (neg_ℤ wy) (omega (arith, ints)) v, neg_both uy wy))
+    (λ s. let t : pos 0 <ℤ (uy *ℤ wx) = mul_strict uy wx s hw in
+    let v : pos 0 <ℤ wy = cancel_strict ux wy hu (omega (arith, ints)) in
+    omega (arith, ints, mul_strict ux wx hu hw, mul_strict uy wy s v))
+    (λ s. omega (arith, ints, mul_strict ux wx hu hw, nil_left uy wy s))
+    (λ s. let t : pos 0 <ℤ (neg_ℤ uy *ℤ wx) = mul_strict (neg_ℤ uy) wx (omega (arith, ints)) hw in
+    let v : pos 0 <ℤ neg_ℤ wy = cancel_strict ux (neg_ℤ wy) hu (omega (arith, ints, neg_mul uy wx, mul_neg ux wy)) in
+    omega (arith, ints, mul_strict ux wx hu hw, mul_strict (neg_ℤ uy) (neg_ℤ wy) (omega (arith, ints)) v, neg_both uy wy))
 
 dot_ahead : (ux uy wx wy : ℤ) → Ahead ux uy → Ahead wx wy → cross ux uy wx wy ≡ pos 0 → pos 0 <ℤ dot ux uy wx wy
 unfolding dot
@@ -76,14 +76,14 @@ scalar_before k a z ha hz h =
 scalar_behind : (k a z : Point) → IsBefore a k → IsBefore z k → area k a z ≡ pos 0 → pos 0 <ℤ scalar k a z
 scalar_behind k a z ha hz h =
     rw (scalar_is_dot, ← dot_turned (a.x -ℤ k.x) (a.y -ℤ k.y) (z.x -ℤ k.x) (z.y -ℤ k.y))
-        (dot_ahead (neg_ℤ (a.x -ℤ k.x)) (neg_ℤ (a.y -ℤ k.y)) (neg_ℤ (z.x -ℤ k.x)) (neg_ℤ (z.y -ℤ k.y)) (step_back k a ha) (step_back k z hz)
-            (cross_turned (a.x -ℤ k.x) (a.y -ℤ k.y) (z.x -ℤ k.x) (z.y -ℤ k.y) ∙ sym (area_is_cross k a z) ∙ h))
+    (dot_ahead (neg_ℤ (a.x -ℤ k.x)) (neg_ℤ (a.y -ℤ k.y)) (neg_ℤ (z.x -ℤ k.x)) (neg_ℤ (z.y -ℤ k.y)) (step_back k a ha) (step_back k z hz)
+    (cross_turned (a.x -ℤ k.x) (a.y -ℤ k.y) (z.x -ℤ k.x) (z.y -ℤ k.y) ∙ sym (area_is_cross k a z) ∙ h))
 
 scalar_amid : (k a z : Point) → IsBefore a k → IsBefore k z → area k a z ≡ pos 0 → scalar k a z <ℤ pos 0
 scalar_amid k a z ha hz h =
     let d : pos 0 <ℤ dot (neg_ℤ (a.x -ℤ k.x)) (neg_ℤ (a.y -ℤ k.y)) (z.x -ℤ k.x) (z.y -ℤ k.y) =
-        dot_ahead (neg_ℤ (a.x -ℤ k.x)) (neg_ℤ (a.y -ℤ k.y)) (z.x -ℤ k.x) (z.y -ℤ k.y) (step_back k a ha) (ahead k z hz)
-            (cross_half_turned (a.x -ℤ k.x) (a.y -ℤ k.y) (z.x -ℤ k.x) (z.y -ℤ k.y) ∙ ap neg_ℤ (sym (area_is_cross k a z) ∙ h)) in
+    dot_ahead (neg_ℤ (a.x -ℤ k.x)) (neg_ℤ (a.y -ℤ k.y)) (z.x -ℤ k.x) (z.y -ℤ k.y) (step_back k a ha) (ahead k z hz)
+    (cross_half_turned (a.x -ℤ k.x) (a.y -ℤ k.y) (z.x -ℤ k.x) (z.y -ℤ k.y) ∙ ap neg_ℤ (sym (area_is_cross k a z) ∙ h)) in
     omega (arith, ints, dot_half_turned (a.x -ℤ k.x) (a.y -ℤ k.y) (z.x -ℤ k.x) (z.y -ℤ k.y), scalar_is_dot k a z)
 
 scalar_at_first : (k a z : Point) → k.x ≡ a.x → k.y ≡ a.y → scalar k a z ≡ pos 0
@@ -98,27 +98,27 @@ scalar_at_second k a z ex ey = omega (arith, ints, nil_right (a.x -ℤ k.x) (z.x
 pub by_order : {P : Type 0} (p q : Point) → (IsBefore p q → P) → (p.x ≡ q.x → p.y ≡ q.y → P) → (IsBefore q p → P) → P
 by_order p q f g h =
     by_sign (q.x -ℤ p.x)
-        (λ s. f (inl (omega (arith, ints))))
-        (λ s. by_sign (q.y -ℤ p.y)
-            (λ t. f (inr (omega (arith, ints), omega (arith, ints))))
-            (λ t. g (omega (arith, ints)) (omega (arith, ints)))
-            (λ t. h (inr (omega (arith, ints), omega (arith, ints)))))
-        (λ s. h (inl (omega (arith, ints))))
+    (λ s. f (inl (omega (arith, ints))))
+    (λ s. by_sign (q.y -ℤ p.y)
+    (λ t. f (inr (omega (arith, ints), omega (arith, ints))))
+    (λ t. g (omega (arith, ints)) (omega (arith, ints)))
+    (λ t. h (inr (omega (arith, ints), omega (arith, ints)))))
+    (λ s. h (inl (omega (arith, ints))))
 
 -- a point between two others stands between them in the order too
 pub between_is_amid : (k a z : Point) → IsBefore a z → area a k z ≡ pos 0 → scalar k a z <ℤ pos 0 → IsBefore a k × IsBefore k z
 between_is_amid k a z h e s =
     let e2 : area k a z ≡ pos 0 = omega (arith, ints, area_swap a k z) in
     by_order a k
-        (λ p. by_order k z
-            (λ q. (p, q))
-            (λ ex ey. absurd (omega (arith, ints, scalar_at_second k a z ex ey)))
-            (λ q. absurd (omega (arith, ints, scalar_behind k a z p q e2))))
-        (λ ex ey. absurd (omega (arith, ints, scalar_at_first k a z (sym ex) (sym ey))))
-        (λ p. by_order k z
-            (λ q. absurd (omega (arith, ints, scalar_before k a z p q e2)))
-            (λ ex ey. absurd (omega (arith, ints, scalar_at_second k a z ex ey)))
-            (λ q. absurd (omega (arith, ints, h, p, q))))
+    (λ p. by_order k z
+    (λ q. (p, q))
+    (λ ex ey. absurd (omega (arith, ints, scalar_at_second k a z ex ey)))
+    (λ q. absurd (omega (arith, ints, scalar_behind k a z p q e2))))
+    (λ ex ey. absurd (omega (arith, ints, scalar_at_first k a z (sym ex) (sym ey))))
+    (λ p. by_order k z
+    (λ q. absurd (omega (arith, ints, scalar_before k a z p q e2)))
+    (λ ex ey. absurd (omega (arith, ints, scalar_at_second k a z ex ey)))
+    (λ q. absurd (omega (arith, ints, h, p, q))))
 
 pub amid_is_between : (k a z : Point) → IsBefore a k → IsBefore k z → area a k z ≡ pos 0 → scalar k a z <ℤ pos 0
 amid_is_between k a z p q e = scalar_amid k a z p q (omega (arith, ints, area_swap a k z))

@@ -2,3 +2,4 @@ pub mod Products
 pub mod Steps
 pub mod Orientations
 pub mod Between
+pub mod Separation

@@ -1,10 +1,10 @@
 -- Laws of the orientation of points.
-use Rattle.std.proofs.Common.{◌≡◌, ℕ, ℤ, pos, ◌+ℤ◌, ◌-ℤ◌, ◌*ℤ◌, neg_ℤ, arith, sym, ◌∙◌, refl, ap, inl, inr, ◌⊎◌}
+use Rattle.std.proofs.Common.{◌≡◌, ℤ, pos, ◌+ℤ◌, ◌-ℤ◌, ◌*ℤ◌, neg_ℤ, arith, sym, ◌∙◌, ap, inl, inr}
 use Rattle.std.specs.Prelude.{◌<ℤ◌, ◌≤ℤ◌}
 use Rattle.std.proofs.Math.IntN.{*ℤ_comm}
 use Rattle.std.proofs.lemmas.Int.{ints}
 use Rattle.plane.specs.declared.coordinates.Point.{Point}
-use Rattle.plane.specs.Geometry.{area, scalar}
+use Rattle.plane.specs.Geometry.{area}
 use Rattle.plane.proofs.Determinant.{mul_add, mul_neg, mul_differences, det_cycle}
 use Rattle.plane_laws.specs.Order.{IsBefore, AreInOrder}
 use Rattle.plane_laws.proofs.Products.{cross, three}
@@ -26,11 +26,11 @@ area_steps p q r =
     omega (arith, ints, mul_differences q.x p.x r.y p.y, mul_differences q.y p.y r.x p.x, mul_differences q.x p.x r.y q.y, mul_differences q.y p.y r.x q.x)
 
 -- the determinant of two points
-det : (p q : Point) → ℤ
+unfoldable pub det : (p q : Point) → ℤ
 det p q = p.x *ℤ q.y -ℤ p.y *ℤ q.x
 
 -- the area by the determinants of its sides
-area_sides : (p q r : Point) → area p q r ≡ (det p q +ℤ det q r) -ℤ det p r
+pub area_sides : (p q r : Point) → area p q r ≡ (det p q +ℤ det q r) -ℤ det p r
 unfolding area det
 area_sides p q r =
     omega (arith, ints, mul_differences q.x p.x r.y p.y, mul_differences q.y p.y r.x p.x, *ℤ_comm p.x q.y, *ℤ_comm p.y q.x, *ℤ_comm p.x p.y)
@@ -65,13 +65,13 @@ numbers : (a b c d X Y Z : ℤ) → a ≡ X → d ≡ Y → b ≡ a +ℤ Z → a
     → (X ≤ℤ pos 0 → Y ≤ℤ pos 0 → Z ≤ℤ pos 0) → (X <ℤ pos 0 → Y ≤ℤ pos 0 → Z <ℤ pos 0) → (X ≤ℤ pos 0 → Y <ℤ pos 0 → Z <ℤ pos 0)
     → AreInOrder a b c d
 numbers a b c d X Y Z ea ed eb sum r1 r2 r3 f1 f2 f3 = record {
-    sum = sum;
-    rises = λ g h. let z : pos 0 ≤ℤ Z = r1 (omega (arith, ints)) (omega (arith, ints)) in omega (arith, ints);
-    rises_first = λ g h. let z : pos 0 <ℤ Z = r2 (omega (arith, ints)) (omega (arith, ints)) in omega (arith, ints);
-    rises_last = λ g h. let z : pos 0 <ℤ Z = r3 (omega (arith, ints)) (omega (arith, ints)) in omega (arith, ints);
-    falls = λ g h. let z : Z ≤ℤ pos 0 = f1 (omega (arith, ints)) (omega (arith, ints)) in omega (arith, ints);
-    falls_first = λ g h. let z : Z <ℤ pos 0 = f2 (omega (arith, ints)) (omega (arith, ints)) in omega (arith, ints);
-    falls_last = λ g h. let z : Z <ℤ pos 0 = f3 (omega (arith, ints)) (omega (arith, ints)) in omega (arith, ints)
+  sum = sum;
+  rises = λ g h. let z : pos 0 ≤ℤ Z = r1 (omega (arith, ints)) (omega (arith, ints)) in omega (arith, ints);
+  rises_first = λ g h. let z : pos 0 <ℤ Z = r2 (omega (arith, ints)) (omega (arith, ints)) in omega (arith, ints);
+  rises_last = λ g h. let z : pos 0 <ℤ Z = r3 (omega (arith, ints)) (omega (arith, ints)) in omega (arith, ints);
+  falls = λ g h. let z : Z ≤ℤ pos 0 = f1 (omega (arith, ints)) (omega (arith, ints)) in omega (arith, ints);
+  falls_first = λ g h. let z : Z <ℤ pos 0 = f2 (omega (arith, ints)) (omega (arith, ints)) in omega (arith, ints);
+  falls_last = λ g h. let z : Z <ℤ pos 0 = f3 (omega (arith, ints)) (omega (arith, ints)) in omega (arith, ints);
 }
 
 -- four points in order
@@ -82,11 +82,11 @@ in_order p q r s hp hq hr =
     let wx : ℤ = s.x -ℤ r.x in let wy : ℤ = s.y -ℤ r.y in
     let u : Ahead ux uy = ahead p q hp in let v : Ahead vx vy = ahead q r hq in let w : Ahead wx wy = ahead r s hr in
     numbers (area p q r) (area p q s) (area p r s) (area q r s) (cross ux uy vx vy) (cross vx vy wx wy) (cross ux uy wx wy)
-        (area_steps p q r) (area_steps q r s) (area_more p q r s) (area_four p q r s)
-        (turn_weak ux uy vx vy wx wy u v w) (turn_first ux uy vx vy wx wy u v w) (turn_last ux uy vx vy wx wy u v w)
-        (λ g h. let t : pos 0 ≤ℤ cross wx wy ux uy = turn_weak wx wy vx vy ux uy w v u (omega (arith, ints, cross_back vx vy wx wy)) (omega (arith, ints, cross_back ux uy vx vy)) in omega (arith, ints, cross_back ux uy wx wy))
-        (λ g h. let t : pos 0 <ℤ cross wx wy ux uy = turn_last wx wy vx vy ux uy w v u (omega (arith, ints, cross_back vx vy wx wy)) (omega (arith, ints, cross_back ux uy vx vy)) in omega (arith, ints, cross_back ux uy wx wy))
-        (λ g h. let t : pos 0 <ℤ cross wx wy ux uy = turn_first wx wy vx vy ux uy w v u (omega (arith, ints, cross_back vx vy wx wy)) (omega (arith, ints, cross_back ux uy vx vy)) in omega (arith, ints, cross_back ux uy wx wy))
+    (area_steps p q r) (area_steps q r s) (area_more p q r s) (area_four p q r s)
+    (turn_weak ux uy vx vy wx wy u v w) (turn_first ux uy vx vy wx wy u v w) (turn_last ux uy vx vy wx wy u v w)
+    (λ g h. let t : pos 0 ≤ℤ cross wx wy ux uy = turn_weak wx wy vx vy ux uy w v u (omega (arith, ints, cross_back vx vy wx wy)) (omega (arith, ints, cross_back ux uy vx vy)) in omega (arith, ints, cross_back ux uy wx wy))
+    (λ g h. let t : pos 0 <ℤ cross wx wy ux uy = turn_last wx wy vx vy ux uy w v u (omega (arith, ints, cross_back vx vy wx wy)) (omega (arith, ints, cross_back ux uy vx vy)) in omega (arith, ints, cross_back ux uy wx wy))
+    (λ g h. let t : pos 0 <ℤ cross wx wy ux uy = turn_first wx wy vx vy ux uy w v u (omega (arith, ints, cross_back vx vy wx wy)) (omega (arith, ints, cross_back ux uy vx vy)) in omega (arith, ints, cross_back ux uy wx wy))
 
 zero_weak : (x : ℤ) → pos 0 ≤ℤ x → pos 0 ≤ℤ neg_ℤ x → x ≡ pos 0
 zero_weak x g h = omega (arith, ints)
@@ -109,7 +109,7 @@ pub in_line : (p q a b : Point) → IsBefore p q → area p q a ≡ pos 0 → ar
 unfolding area
 in_line p q a b hpq ha hb =
     in_line_steps (a.x -ℤ p.x) (a.y -ℤ p.y) (q.x -ℤ p.x) (q.y -ℤ p.y) (b.x -ℤ p.x) (b.y -ℤ p.y) (ahead p q hpq)
-        (cross_back (q.x -ℤ p.x) (q.y -ℤ p.y) (a.x -ℤ p.x) (a.y -ℤ p.y) ∙ ap neg_ℤ ha) hb
+    (cross_back (q.x -ℤ p.x) (q.y -ℤ p.y) (a.x -ℤ p.x) (a.y -ℤ p.y) ∙ ap neg_ℤ ha) hb
 
 pub all_in_line : (p q a b c : Point) → IsBefore p q → area p q a ≡ pos 0 → area p q b ≡ pos 0 → area p q c ≡ pos 0 → area a b c ≡ pos 0
 all_in_line p q a b c hpq ha hb hc =

@@ -1,5 +1,5 @@
 -- Whole numbers: products, and the signs of products.
-use Rattle.std.proofs.Common.{◌≡◌, ℕ, suc, zero, ℤ, pos, negsuc, ◌+ℤ◌, ◌-ℤ◌, ◌*ℤ◌, neg_ℤ, arith, sym, ◌∙◌, refl, ap, ◌<◌, ◌+◌, ◌*◌}
+use Rattle.std.proofs.Common.{◌≡◌, ℕ, ℤ, pos, negsuc, ◌+ℤ◌, ◌-ℤ◌, ◌*ℤ◌, neg_ℤ, arith, sym, ◌∙◌, refl, ap, ◌<◌, ◌*◌}
 use Rattle.std.specs.Prelude.{◌<ℤ◌, ◌≤ℤ◌}
 use Rattle.std.proofs.Math.IntN.{ℤ_ind, suc_ℤ-*ℤ, pred_ℤ-*ℤ, +ℤ_one, -ℤ_one, zero-*ℤ, *ℤ_comm, suc_ℤ, pred_ℤ, pos-*ℤ-pos}
 use Rattle.std.proofs.lemmas.Int.{ints}
@@ -24,10 +24,10 @@ down_one k m b c e h = rw (e, pred_ℤ-*ℤ k (b *ℤ c), pred_ℤ-*ℤ k b, sub
 pub mul_assoc : (a b c : ℤ) → a *ℤ (b *ℤ c) ≡ (a *ℤ b) *ℤ c
 mul_assoc a b c =
     ℤ_ind (λ (k : ℤ). k *ℤ (b *ℤ c) ≡ (k *ℤ b) *ℤ c)
-        (rw (zero-*ℤ (b *ℤ c), zero-*ℤ b, zero-*ℤ c) refl)
-        (λ n h. up_one (pos n) (pos n +ℤ pos 1) b c (+ℤ_one (pos n)) h)
-        (λ n h. down_one (neg_ℤ (pos n)) (neg_ℤ (pos n) +ℤ neg_ℤ (pos 1)) b c (-ℤ_one (neg_ℤ (pos n))) h)
-        a
+    (rw (zero-*ℤ (b *ℤ c), zero-*ℤ b, zero-*ℤ c) refl)
+    (λ n h. up_one (pos n) (pos n +ℤ pos 1) b c (+ℤ_one (pos n)) h)
+    (λ n h. down_one (neg_ℤ (pos n)) (neg_ℤ (pos n) +ℤ neg_ℤ (pos 1)) b c (-ℤ_one (neg_ℤ (pos n))) h)
+    a
 
 pub left_comm : (a b c : ℤ) → a *ℤ (b *ℤ c) ≡ b *ℤ (a *ℤ c)
 left_comm a b c = mul_assoc a b c ∙ ap (λ x. x *ℤ c) (*ℤ_comm a b) ∙ sym (mul_assoc b a c)
@@ -52,5 +52,23 @@ cross ax ay bx by = ax *ℤ by -ℤ ay *ℤ bx
 -- what three steps' cross products have to do with one another
 pub three : (ux uy vx vy wx wy : ℤ) → vx *ℤ cross ux uy wx wy ≡ ux *ℤ cross vx vy wx wy +ℤ wx *ℤ cross ux uy vx vy
 three ux uy vx vy wx wy =
-    omega (arith, ints, mul_sub vx (ux *ℤ wy) (uy *ℤ wx), mul_sub ux (vx *ℤ wy) (vy *ℤ wx), mul_sub wx (ux *ℤ vy) (uy *ℤ vx),
-        left_comm vx ux wy, left_comm ux vy wx, left_comm wx ux vy, left_comm vx uy wx, left_comm wx uy vx, *ℤ_comm vx wx, *ℤ_comm ux wx, ap (λ x. uy *ℤ x) (*ℤ_comm vx wx), ap (λ x. vy *ℤ x) (*ℤ_comm ux wx), left_comm vy ux wx, left_comm ux wx vy, ap (λ x. ux *ℤ x) (*ℤ_comm vy wx), ap (λ x. uy *ℤ x) (*ℤ_comm wx vx))
+    omega (
+      arith,
+      ints,
+      mul_sub vx (ux *ℤ wy) (uy *ℤ wx),
+      mul_sub ux (vx *ℤ wy) (vy *ℤ wx),
+      mul_sub wx (ux *ℤ vy) (uy *ℤ vx),
+      left_comm vx ux wy,
+      left_comm ux vy wx,
+      left_comm wx ux vy,
+      left_comm vx uy wx,
+      left_comm wx uy vx,
+      *ℤ_comm vx wx,
+      *ℤ_comm ux wx,
+      ap (λ x. uy *ℤ x) (*ℤ_comm vx wx),
+      ap (λ x. vy *ℤ x) (*ℤ_comm ux wx),
+      left_comm vy ux wx,
+      left_comm ux wx vy,
+      ap (λ x. ux *ℤ x) (*ℤ_comm vy wx),
+      ap (λ x. uy *ℤ x) (*ℤ_comm wx vx),
+    )

@@ -1,7 +1,7 @@
 -- Steps that lead on by x, then by y, and the signs of their cross products.
-use Rattle.std.proofs.Common.{◌≡◌, ℕ, suc, zero, negsuc, ℤ, pos, ◌+ℤ◌, ◌-ℤ◌, ◌*ℤ◌, neg_ℤ, arith, sym, ◌∙◌, refl, ap, inl, inr, ◌⊎◌}
+use Rattle.std.proofs.Common.{◌≡◌, suc, zero, negsuc, ℤ, pos, ◌*ℤ◌, neg_ℤ, arith, ◌∙◌, refl, ap, inl, inr, ◌⊎◌}
 use Rattle.std.specs.Prelude.{◌<ℤ◌, ◌≤ℤ◌}
-use Rattle.std.proofs.Math.IntN.{*ℤ_comm, *ℤ-zero, zero-*ℤ}
+use Rattle.std.proofs.Math.IntN.{*ℤ-zero, zero-*ℤ}
 use Rattle.std.proofs.lemmas.Int.{ints}
 use Rattle.plane.proofs.Determinant.{mul_neg}
 use Rattle.plane_laws.proofs.Products.{cross, three, mul_weak, mul_strict}
@@ -36,7 +36,7 @@ cancel_strict a b ha h = by_sign b (λ p. p) (λ p. absurd (omega (arith, ints, 
 pub turn_weak : (ux uy vx vy wx wy : ℤ) → Ahead ux uy → Ahead vx vy → Ahead wx wy → pos 0 ≤ℤ cross ux uy vx vy → pos 0 ≤ℤ cross vx vy wx wy → pos 0 ≤ℤ cross ux uy wx wy
 turn_weak ux uy vx vy wx wy hu (inl hv) hw hx hy =
     cancel_weak vx (cross ux uy wx wy) hv
-        (omega (arith, ints, three ux uy vx vy wx wy, mul_weak ux (cross vx vy wx wy) (ahead_weak ux uy hu) hy, mul_weak wx (cross ux uy vx vy) (ahead_weak wx wy hw) hx))
+    (omega (arith, ints, three ux uy vx vy wx wy, mul_weak ux (cross vx vy wx wy) (ahead_weak ux uy hu) hy, mul_weak wx (cross ux uy vx vy) (ahead_weak wx wy hw) hx))
 turn_weak ux uy vx vy wx wy hu (inr hv) (inl hw) hx hy =
     absurd (omega (arith, ints, nil_left vx wy hv.0, mul_strict vy wx hv.1 hw))
 turn_weak ux uy vx vy wx wy hu (inr hv) (inr hw) hx hy =
@@ -45,7 +45,7 @@ turn_weak ux uy vx vy wx wy hu (inr hv) (inr hw) hx hy =
 pub turn_first : (ux uy vx vy wx wy : ℤ) → Ahead ux uy → Ahead vx vy → Ahead wx wy → pos 0 <ℤ cross ux uy vx vy → pos 0 ≤ℤ cross vx vy wx wy → pos 0 <ℤ cross ux uy wx wy
 turn_first ux uy vx vy wx wy hu (inl hv) (inl hw) hx hy =
     cancel_strict vx (cross ux uy wx wy) hv
-        (omega (arith, ints, three ux uy vx vy wx wy, mul_weak ux (cross vx vy wx wy) (ahead_weak ux uy hu) hy, mul_strict wx (cross ux uy vx vy) hw hx))
+    (omega (arith, ints, three ux uy vx vy wx wy, mul_weak ux (cross vx vy wx wy) (ahead_weak ux uy hu) hy, mul_strict wx (cross ux uy vx vy) hw hx))
 turn_first ux uy vx vy wx wy (inl hu) (inl hv) (inr hw) hx hy =
     omega (arith, ints, nil_right uy wx hw.0, mul_strict ux wy hu hw.1)
 turn_first ux uy vx vy wx wy (inr hu) (inl hv) (inr hw) hx hy =
@@ -60,7 +60,7 @@ turn_first ux uy vx vy wx wy (inr hu) (inr hv) (inr hw) hx hy =
 pub turn_last : (ux uy vx vy wx wy : ℤ) → Ahead ux uy → Ahead vx vy → Ahead wx wy → pos 0 ≤ℤ cross ux uy vx vy → pos 0 <ℤ cross vx vy wx wy → pos 0 <ℤ cross ux uy wx wy
 turn_last ux uy vx vy wx wy (inl hu) (inl hv) hw hx hy =
     cancel_strict vx (cross ux uy wx wy) hv
-        (omega (arith, ints, three ux uy vx vy wx wy, mul_strict ux (cross vx vy wx wy) hu hy, mul_weak wx (cross ux uy vx vy) (ahead_weak wx wy hw) hx))
+    (omega (arith, ints, three ux uy vx vy wx wy, mul_strict ux (cross vx vy wx wy) hu hy, mul_weak wx (cross ux uy vx vy) (ahead_weak wx wy hw) hx))
 turn_last ux uy vx vy wx wy (inr hu) (inl hv) hw hx hy =
     absurd (omega (arith, ints, nil_left ux vy hu.0, mul_strict uy vx hu.1 hv))
 turn_last ux uy vx vy wx wy hu (inr hv) hw hx hy =

@@ -1,6 +1,7 @@
 -- The order of points by x, then by y, and what the orientations of four points in this order have to do with one another.
-use Rattle.std.specs.Prelude.{◌≡◌, ℤ, pos, ◌+ℤ◌, ◌<ℤ◌, ◌≤ℤ◌, ◌⊎◌}
+use Rattle.std.specs.Prelude.{◌≡◌, ℕ, List, ℤ, pos, ◌+ℤ◌, ◌<ℤ◌, ◌≤ℤ◌, ◌⊎◌}
 use Rattle.plane.specs.declared.coordinates.Point.{Point}
+use Rattle.plane.specs.Geometry.{point, orientation}
 
 -- p comes before q by x, then by y
 abbrev pub IsBefore : (p q : Point) → Type 0
@@ -16,3 +17,7 @@ pub record AreInOrder (a b c d : ℤ) : Type 0 where
   pub falls : a ≤ℤ pos 0 → d ≤ℤ pos 0 → b ≤ℤ a
   pub falls_first : a <ℤ pos 0 → d ≤ℤ pos 0 → b <ℤ a
   pub falls_last : a ≤ℤ pos 0 → d <ℤ pos 0 → b <ℤ a
+
+-- k is in line with p and q, and stands between them in the order by x, then by y
+abbrev pub IsAmid : List Point → (k p q : ℕ) → Type 0
+IsAmid S k p q = (orientation S p k q ≡ pos 0) × IsBefore (point S p) (point S k) × IsBefore (point S k) (point S q)

@@ -1,6 +1,6 @@
 -- The pairs of items, and the answer to a text from the answer to its parts.
 use Rattle.std.proofs.Common.{◌≡◌, ℕ, ◌+◌, ◌<◌, ◌≤◌, List, [], ◌∷◌, ◌++◌, length, map, take, get_or, nat_le, not, Option, Some, None, is_some, Result, Ok, Err, Bool, true, false, Vec, Global, codes, refl, sym, ap, ◌∙◌, subst, arith}
-use Rattle.std.specs.List.{filter_map, cons_option, position}
+use Rattle.std.specs.List.{filter_map, cons_option}
 use Rattle.std.proofs.lemmas.List.{length-map, map-append, take_more, take_all}
 use Rattle.serde_json.specs.Data.{Data, null}
 use Rattle.serde_json.specs.View.{view, items_view}
@@ -8,7 +8,7 @@ use Rattle.serde_json.specs.declared.value.Value.{Value}
 use Rattle.plane.specs.declared.segment.Pair.{Pair}
 use Rattle.text_defs.specs.Reading.{json_reading}
 use Rattle.text_defs.specs.Steps.{array_at}
-use Rattle.text_defs.specs.Solutions.{Fault, not_json, no_edges, too_many_edges, bad_edge, edge_of, edges_of, edges_in, edges_from}
+use Rattle.text_defs.specs.Solutions.{not_json, no_edges, too_many_edges, bad_edge, edge_of, edges_of, edges_in, edges_from}
 use Rattle.instance_io.proofs.Places.{NoneBefore, at_place, found_in, none_in}
 use Rattle.instance_io.proofs.Parts.{listed}
 use Rattle.solution_io.specs.Refusal.{ends, HasFault, IsRead}

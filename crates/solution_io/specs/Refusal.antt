@@ -1,5 +1,5 @@
 -- How the reading of a solution is answered.
-use Rattle.std.specs.Prelude.{◌≡◌, ℕ, List, map, Option, Some, None, Result, Ok, Err, Vec}
+use Rattle.std.specs.Prelude.{◌≡◌, ◌≢◌, ◌↔◌, ℕ, List, map, Result, Ok, Err, Vec}
 use Rattle.std.specs.declared.alloc.Global.{Global}
 use Rattle.plane.specs.declared.segment.Pair.{Pair}
 use Rattle.text_defs.specs.Solutions.{Fault, not_json, no_edges, too_many_edges, bad_edge}
@@ -26,3 +26,7 @@ IsRead reading (Err fault) = HasFault reading fault
 -- for a private clause: the fault of so many edges
 abbrev pub IsTooMany : ℕ → SolutionFault → Type 0
 IsTooMany count fault = HasFault (Err (too_many_edges count)) fault
+
+-- each fault comes exactly where the reading has it, want of memory aside
+abbrev pub IsExact : Result (List (ℕ × ℕ)) Fault → Result (Vec Pair Global) SolutionFault → Type 0
+IsExact reading result = result ≢ Err NoMemory → (fault : SolutionFault) → fault ≢ NoMemory → (result ≡ Err fault) ↔ HasFault reading fault

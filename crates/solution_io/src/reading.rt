@@ -2,7 +2,7 @@
 ghost use Rattle.std.specs.Prelude.{◌≡◌};
 ghost use Rattle.serde_json.specs.View.{view};
 ghost use Rattle.text_defs.specs.Solutions.{edges_in, edges_from};
-ghost use Rattle.solution_io.specs.Refusal.{IsRead, IsTooMany};
+ghost use Rattle.solution_io.specs.Refusal.{IsRead, IsExact, IsTooMany};
 
 use crate::edges::edges_of;
 use crate::fault::SolutionFault;
@@ -17,7 +17,8 @@ const MOST_EDGES: usize = 20_000;
 /// which the faults stand in `SolutionFault`. A pair may be written either way round, and other keys are ignored.
 /// (This project's own, after the challenge's files.)
 pub fn solution_of(alloc: Global, value: &Value, n: u32) -> Result<Vec<Pair>, SolutionFault>
-    ensures { IsRead (edges_in n (view value.now)) result }
+    ensures answer { IsRead (edges_in n (view value.now)) result }
+    ensures exact { IsExact (edges_in n (view value.now)) result }
 {
     let Some(items) = array_at(value, "edges") else {
         return Err(SolutionFault::NoEdges);
@@ -40,7 +41,8 @@ fn too_many(count: usize) -> SolutionFault
 
 /// The pairs of a solution over `n` points that a text is, in their order, or its first fault.
 pub fn read_solution(alloc: Global, bytes: &[u8], n: u32) -> Result<Vec<Pair>, SolutionFault>
-    ensures { IsRead (edges_from n bytes.now) result }
+    ensures answer { IsRead (edges_from n bytes.now) result }
+    ensures exact { IsExact (edges_from n bytes.now) result }
 {
     match read_value(alloc, bytes) {
         Ok(value) => solution_of(alloc, &value, n),

@@ -48,8 +48,8 @@ end_small n key d = and_then (λ _. Unit {0}) (λ i. i < n) (below n) (whole_at 
 edge_small : (n : ℕ) (d : Data) → OfSome (IsSmall n) (edge_of n d)
 edge_small n d =
     and_then (λ i. i < n) (IsSmall n) (λ i. option_and_then (pair_of i) (end_at n (codes "j") d)) (end_at n (codes "i") d) (end_small n (codes "i") d)
-        (λ i hi. and_then (λ j. j < n) (IsSmall n) (pair_of i) (end_at n (codes "j") d) (end_small n (codes "j") d)
-            (λ j hj. some_unless (IsSmall n) (i == j) (min i j, max i j) (omega arith)))
+    (λ i hi. and_then (λ j. j < n) (IsSmall n) (pair_of i) (end_at n (codes "j") d) (end_small n (codes "j") d)
+    (λ j hj. some_unless (IsSmall n) (i == j) (min i j, max i j) (omega arith)))
 
 kept_small : (n : ℕ) (items : List Data) → AllByRecursion (IsSmall n) (filter_map (edge_of n) items)
 kept_small n [] = tt
@@ -95,6 +95,7 @@ within_all n (e ∷ K) all (suc k) d h = within_all n K all.1 k d (omega arith)
 -- the pairs of a solution over the points of S are within S, and few
 pub solution_within : (S : List Point) (d : Data) (K : List Pair) → edges_in (length S) d ≡ Ok (map ends K) → AreWithin S K × (length K < 2 ^ 32)
 solution_within S d K read =
-    let (all, few) = edges_small (length S) d (map ends K) read in
-    (λ e (k, h, is). subst (λ (x : Pair). x.hi < length S) is (within_all (length S) K all k e h),
-     omega (arith, few, length-map K ends))
+    let (all, few) = edges_small (length S) d (map ends K) read in (
+      λ e (k, h, is). subst (λ (x : Pair). x.hi < length S) is (within_all (length S) K all k e h),
+      omega (arith, few, length-map K ends),
+    )

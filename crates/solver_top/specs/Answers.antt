@@ -34,16 +34,16 @@ IsRefused input text = (refusal : Refusal) × HasRefusal input refusal × (text 
 -- the judgement on the bundle of an input, printed: convex exactly at Done
 abbrev pub IsJudged : List ℕ → Verdict → List ℕ → Type 0
 IsJudged input Done text = (S : List Point) × (K : List Pair) × HasBundle input S K
-  × AreDistinct K × IsConvexPartition S K × (text ≡ judgement_line (Convex (length K)))
+    × AreDistinct K × IsConvexPartition S K × (text ≡ judgement_line (Convex (length K)))
 IsJudged input No text = (S : List Point) × (K : List Pair) × (j : Judgement) × HasBundle input S K
-  × IsJudgement S K j × (j ≢ Convex (length K)) × (text ≡ judgement_line j)
+    × IsJudgement S K j × (j ≢ Convex (length K)) × (text ≡ judgement_line j)
 IsJudged input Usage text = ⊥
 IsJudged input Refused text = IsRefused input text
 
 -- the instance made from a number, and an LF
 abbrev pub IsGenerated : Kind → (n seed : ℕ) → List ℕ → Type 0
 IsGenerated kind n seed text = (S : List Point) × AreMade kind n seed S
-  × (text ≡ instance_text (made_name kind n seed) (map coordinates S) ++ codes "\n")
+    × (text ≡ instance_text (made_name kind n seed) (map coordinates S) ++ codes "\n")
 
 -- an input that is too long is refused before all else, one byte past the limit
 abbrev pub IsTooLong : List ℕ → Option (List ℕ) → Verdict → List ℕ → Type 0
@@ -52,7 +52,7 @@ IsTooLong input left verdict text = Took (most_input + 1) input left × (verdict
 -- a command that reads its input to the end
 abbrev pub ReadsAll : (List ℕ → Verdict → List ℕ → Type 0) → List ℕ → Option (List ℕ) → Verdict → List ℕ → Type 0
 ReadsAll Answers input left verdict text =
-  IsTooLong input left verdict text ⊎ ((length input ≤ most_input) × (left ≡ Some []) × Answers input verdict text)
+    IsTooLong input left verdict text ⊎ ((length input ≤ most_input) × (left ≡ Some []) × Answers input verdict text)
 
 -- the numbers of a command are within their limits
 abbrev pub IsInRange : Command → Type 0
@@ -67,9 +67,9 @@ IsAnswerOf (Gen kind n seed) input left verdict text = (left ≡ Some input) × 
 -- words that are no line, with the position that is shown; nothing is read
 abbrev pub IsUsage : List (List ℕ) → List ℕ → Option (List ℕ) → Verdict → List ℕ → Type 0
 IsUsage words input left verdict text =
-  (verdict ≡ Usage) × (left ≡ Some input) × ((k : ℕ) × IsFaultAt words k × (text ≡ usage_line k))
+    (verdict ≡ Usage) × (left ≡ Some input) × ((k : ℕ) × IsFaultAt words k × (text ≡ usage_line k))
 
 -- what the program answers
 abbrev pub IsAnswer : List (List ℕ) → List ℕ → Option (List ℕ) → Verdict → List ℕ → Type 0
 IsAnswer words input left verdict text =
-  IsUsage words input left verdict text ⊎ ((command : Command) × IsLineOf words command × IsAnswerOf command input left verdict text)
+    IsUsage words input left verdict text ⊎ ((command : Command) × IsLineOf words command × IsAnswerOf command input left verdict text)

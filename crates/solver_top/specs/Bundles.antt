@@ -31,7 +31,7 @@ HasPoints d S = (name : List ℕ) × Gives (instance_in d) name S × AreAccepted
 -- the input is a bundle of an instance with these points and a solution with these pairs
 abbrev pub HasBundle : List ℕ → List Point → List Pair → Type 0
 HasBundle input S K = (instance : Data) × (solution : Data) × HasParts input instance solution
-  × HasPoints instance S × (edges_in (length S) solution ≡ Ok (map ends K))
+    × HasPoints instance S × (edges_in (length S) solution ≡ Ok (map ends K))
 
 abbrev pub HasBundleFault : Result (Data × Data) bundle.Fault → BundleFault → Type 0
 HasBundleFault reading NotJson = reading ≡ Err bundle.not_json
@@ -49,9 +49,9 @@ IsNamedSolution f = f ≢ solution.NoMemory
 abbrev pub HasRefusal : List ℕ → Refusal → Type 0
 HasRefusal input (Bundle f) = HasBundleFault (bundle.parts_from input) f
 HasRefusal input (Instance f) =
-  (instance : Data) × (solution : Data) × HasParts input instance solution × IsNamed f × HasFault (instance_in instance) f
+    (instance : Data) × (solution : Data) × HasParts input instance solution × IsNamed f × HasFault (instance_in instance) f
 HasRefusal input (Solution f) = (instance : Data) × (solution : Data) × HasParts input instance solution
-  × ((S : List Point) × HasPoints instance S × IsNamedSolution f × HasEdgesFault (edges_in (length S) solution) f)
+    × ((S : List Point) × HasPoints instance S × IsNamedSolution f × HasEdgesFault (edges_in (length S) solution) f)
 
 abbrev pub bundle_fault_text : BundleFault → List ℕ
 bundle_fault_text NotJson = codes "NotJson"

@@ -16,6 +16,9 @@ impl Answer {
         ensures verdict { result.verdict ≡ verdict }
         ensures text { result.text.items ≡ string_bytes line }
     {
-        Answer { verdict, text: line.into_bytes() }
+        Answer {
+            verdict,
+            text: line.into_bytes(),
+        }
     }
 }

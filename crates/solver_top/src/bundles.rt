@@ -48,7 +48,12 @@ fn parts_of(alloc: Global, bytes: &[u8], value: &Value) -> Result<Bundle, Unread
 }
 
 // The bundle of the parts of an input.
-fn bundle_of(alloc: Global, bytes: &[u8], instance: &Value, solution: &Value) -> Result<Bundle, Unread>
+fn bundle_of(
+    alloc: Global,
+    bytes: &[u8],
+    instance: &Value,
+    solution: &Value,
+) -> Result<Bundle, Unread>
     requires { HasParts bytes.now (view instance.now) (view solution.now) }
     ensures { MatchResult result (λ bundle. HasBundle bytes.now bundle.points bundle.pairs.items) (TellsBundle bytes.now) }
 {

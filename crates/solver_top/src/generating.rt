@@ -19,5 +19,8 @@ pub fn generated(alloc: Global, kind: Kind, n: u32, seed: u64) -> Result<Answer,
     let instance = generate(alloc, kind, n, seed)?;
     let mut text = write_instance(alloc, &instance)?;
     text.push(b'\n')?;
-    Ok(Answer { verdict: Verdict::Done, text })
+    Ok(Answer {
+        verdict: Verdict::Done,
+        text,
+    })
 }

@@ -13,9 +13,12 @@ mod words;
 
 pub use answers::Answer;
 pub use bundles::{Bundle, read_bundle};
-pub use refusals::{BundleFault, Refusal, Unread};
 pub use generating::generated;
 pub use judging::judged;
+pub use refusals::{BundleFault, Refusal, Unread};
 pub use running::{MOST_INPUT, run};
 pub use status::{Status, Verdict};
 pub use words::{Command, read_words};
+
+#[cfg(test)]
+mod tests;

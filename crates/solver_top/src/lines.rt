@@ -3,8 +3,8 @@ ghost use Rattle.std.specs.Prelude.{◌≡◌, string_bytes, IfOk};
 ghost use Rattle.solver_top.specs.Bundles.{bundle_fault_text, solution_fault_text, refusal_line};
 ghost use Rattle.solver_top.specs.Lines.{usage_line, pair_text, judgement_line, points_fault_text, instance_fault_text};
 
-use cp_judge::Judgement;
 use crate::refusals::{BundleFault, Refusal};
+use cp_judge::Judgement;
 use instance_io::InstanceFault;
 use plane::{BadPoints, Pair};
 use solution_io::SolutionFault;

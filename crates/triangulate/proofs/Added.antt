@@ -1,5 +1,5 @@
 -- Adding one point: the first joining, the two chains in turn, and the end.
-use Rattle.std.proofs.Common.{◌≡◌, ◌≢◌, ℕ, ℤ, pos, neg_ℤ, ◌<◌, ◌+◌, ◌*◌, ◌⊎◌, inl, inr, min, max, List, [], ◌∷◌, ◌++◌, length, sym, ◌∙◌, ap, refl, subst, subst₂, arith, length-append}
+use Rattle.std.proofs.Common.{◌≡◌, ◌≢◌, ℕ, ℤ, ◌<◌, ◌+◌, ◌*◌, inl, inr, min, max, List, [], ◌∷◌, ◌++◌, length, sym, refl, subst, subst₂, arith, length-append}
 use Rattle.std.proofs.lemmas.List.Elements.{All-cons, All-nil}
 use Rattle.std.specs.List.{All}
 use Rattle.plane.specs.declared.coordinates.Point.{Point}
@@ -7,15 +7,11 @@ use Rattle.plane.specs.declared.segment.Pair.{Pair}
 use Rattle.plane.specs.Geometry.{orientation}
 use Rattle.plane.specs.Accepted.{AreApart}
 use Rattle.partition_defs.specs.Partition.{Joins, HasEnds}
-use Rattle.partition_defs.specs.Triangulation.{AreDistinct}
 use Rattle.partition_defs.specs.Sweep.{IsSweptBefore}
 use Rattle.triangulate.specs.declared.sweep.Part.{Part}
-use Rattle.triangulate.specs.declared.sweep.Part.TheVariants.{Lower, Upper}
-use Rattle.triangulate.specs.Sides.{UpTo}
-use Rattle.triangulate.specs.State.{Side, Joining, Links, Whole, Chain, Reach, Settled}
-use Rattle.triangulate.specs.Swept.{opposite, turn, other_turn, AreJoining, IsJoining, AreWhole, IsSwept, IsSettled, IsSeen, IsNext}
-use Rattle.triangulate.proofs.Field.{Setting, Laws, AreTurned, turned_back, up_to_not_before}
-use Rattle.triangulate.proofs.State.{Adds}
+use Rattle.triangulate.specs.State.{Side, Links, Whole, Reach}
+use Rattle.triangulate.specs.Swept.{opposite, turn, other_turn, AreJoining, IsJoining, AreWhole, IsSwept, IsSettled, IsNext}
+use Rattle.triangulate.proofs.Field.{Setting, up_to_not_before}
 use Rattle.triangulate.proofs.Moves.{start, turned, finish}
 use Rattle.triangulate.proofs.Places.{sweep_setting, plane_laws, opposite_laws, opposite_turned}
 use Rattle.triangulate.proofs.Joined.{ends_of_new, push_adds, push_distinct, part_laws, part_turned}
@@ -57,7 +53,11 @@ turned_chains S apart part T (t ∷ r) (t2 ∷ r2) z last h =
 pub turned_joining : (S : List Point) (part : Part) (T : List Pair) (l l2 : List ℕ) (z last k : ℕ)
     → IsJoining S (turn part S) (other_turn part S) T l l2 z last k → IsJoining S (other_turn part S) (turn part S) T l2 l z last k
 turned_joining S part T l l2 z last k m = record {
-    apart = m.apart; chains = turned_chains S m.apart part T l l2 z last m.chains; distinct = m.distinct; count = other_count (length T) (length l) (length l2) k m.count }
+  apart = m.apart;
+  chains = turned_chains S m.apart part T l l2 z last m.chains;
+  distinct = m.distinct;
+  count = other_count (length T) (length l) (length l2) k m.count;
+}
 
 start_chains : (S : List Point) (apart : AreApart S) (T : List Pair) (l l2 : List ℕ) (z last : ℕ) (e : Pair) → HasEnds e last z → IsNext S last z
     → AreWhole S T l l2 last → AreJoining S (orientation S) (opposite S) (T ++ e ∷ []) l l2 z last
@@ -65,8 +65,8 @@ start_chains S apart T [] l2 z last e he next h = absurd h
 start_chains S apart T (t ∷ r) [] z last e he next h = absurd h
 start_chains S apart T (t ∷ r) (t2 ∷ r2) z last e he next h =
     subst₂ (λ x y. AreJoining S (orientation S) (opposite S) (T ++ e ∷ []) (x ∷ r) (y ∷ r2) z last) (sym h.0) (sym h.1)
-        (start (sweep_setting S apart) (orientation S) (opposite S) (plane_laws S apart) (opposite_laws S apart) (Joins T) (Joins (T ++ e ∷ [])) r r2 z last
-            h.2 next.within next.before next.next (push_adds T e last z he))
+    (start (sweep_setting S apart) (orientation S) (opposite S) (plane_laws S apart) (opposite_laws S apart) (opposite_turned S) (Joins T) (Joins (T ++ e ∷ [])) r r2 z last
+    h.2 next.within next.before next.next (push_adds T e last z he))
 
 start_unjoined : (S : List Point) (apart : AreApart S) (T : List Pair) (l l2 : List ℕ) (z last : ℕ) → IsNext S last z → AreWhole S T l l2 last → ¬ Joins T last z
 start_unjoined S apart T [] l2 z last next h j = h
@@ -83,10 +83,10 @@ pub start_joining : (S : List Point) (T : List Pair) (l l2 : List ℕ) (z last k
 start_joining S T l l2 z last k e hl hh next m =
     let he : HasEnds e last z = ends_of_new e last z hl hh in
     record {
-        apart = m.apart;
-        chains = start_chains S m.apart T l l2 z last e he next m.chains;
-        distinct = push_distinct T e last z he (start_unjoined S m.apart T l l2 z last next m.chains) m.distinct;
-        count = start_count T e l l2 k m.count
+      apart = m.apart;
+      chains = start_chains S m.apart T l l2 z last e he next m.chains;
+      distinct = push_distinct T e last z he (start_unjoined S m.apart T l l2 z last next m.chains) m.distinct;
+      count = start_count T e l l2 k m.count;
     }
 
 finish_chains : (S : List Point) (apart : AreApart S) (T : List Pair) (l l2 : List ℕ) (z last : ℕ) → AreJoining S (orientation S) (opposite S) T l l2 z last
@@ -102,7 +102,11 @@ finish_count T l l2 z k h = omega arith
 pub finish_joining : (S : List Point) (T : List Pair) (l l2 : List ℕ) (z last k : ℕ) → IsJoining S (orientation S) (opposite S) T l l2 z last k
     → IsSettled (orientation S) l z → IsSettled (opposite S) l2 z → IsSwept S T (z ∷ l) (z ∷ l2) z (k + 1)
 finish_joining S T l l2 z last k m s s2 = record {
-    apart = m.apart; chains = finish_chains S m.apart T l l2 z last m.chains s s2; distinct = m.distinct; count = finish_count T l l2 z k m.count }
+  apart = m.apart;
+  chains = finish_chains S m.apart T l l2 z last m.chains s s2;
+  distinct = m.distinct;
+  count = finish_count T l l2 z k m.count;
+}
 
 -- the new point isn't the last one
 pub next_apart : (S : List Point) (T : List Pair) (l l2 : List ℕ) (z last k : ℕ) → IsNext S last z → IsSwept S T l l2 last k → last ≢ z

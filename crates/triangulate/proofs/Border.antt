@@ -1,7 +1,7 @@
 -- The border pairs are the sides of the two chains, each once.
-use Rattle.std.proofs.Common.{◌≡◌, ◌≢◌, ℕ, zero, suc, ℤ, pos, neg_ℤ, ◌<◌, ◌≤◌, ◌+◌, ◌*◌, ◌⊎◌, inl, inr, min, max, List, [], ◌∷◌, ◌++◌, length, get_or, map, sym, ◌∙◌, ap, ap₂, refl, subst, subst₂, arith, length-append, append-nil}
-use Rattle.std.specs.Prelude.{◌<ℤ◌, ◌≤ℤ◌}
-use Rattle.std.specs.List.{All, AllPairs, Any, Contains}
+use Rattle.std.proofs.Common.{◌≡◌, ◌≢◌, ℕ, ℤ, pos, neg_ℤ, ◌<◌, ◌+◌, ◌*◌, ◌⊎◌, inl, inr, List, [], ◌∷◌, ◌++◌, length, get_or, map, sym, ◌∙◌, ap, ap₂, refl, subst, subst₂, arith, length-append, append-nil}
+use Rattle.std.specs.Prelude.{◌≤ℤ◌}
+use Rattle.std.specs.List.{All, AllPairs, Contains}
 use Rattle.std.proofs.lemmas.Bool.{cases_order}
 use Rattle.std.proofs.lemmas.List.{get_or-map, length-map}
 use Rattle.std.proofs.lemmas.List.Elements.{All-contains, Contains-get_or, Contains-append_left, Contains-append_right, Contains-append_cases}
@@ -12,10 +12,10 @@ use Rattle.plane.specs.Geometry.{point, orientation, IsBorderPair}
 use Rattle.plane.specs.Accepted.{AreApart, AreSpread}
 use Rattle.plane_laws.proofs.Orientations.{all_in_line, area_swap}
 use Rattle.partition_defs.specs.Partition.{Joins, HasEnds}
-use Rattle.partition_defs.specs.Triangulation.{AreDistinct, IsBorderList, HasTriangulationCount}
+use Rattle.partition_defs.specs.Triangulation.{IsBorderList, HasTriangulationCount}
 use Rattle.partition_defs.specs.Sweep.{IsSweptBefore}
 use Rattle.triangulate.specs.Sides.{UpTo}
-use Rattle.triangulate.specs.State.{Links, Side, Chain, Whole}
+use Rattle.triangulate.specs.State.{Links, Side}
 use Rattle.triangulate.specs.Swept.{opposite}
 use Rattle.triangulate.proofs.Field.{Setting, turned_back, not_both}
 use Rattle.triangulate.proofs.Final.{All as AllIn, clear_turned}
@@ -49,9 +49,10 @@ lower_border S apart T r r2 z m all p q k =
 upper_border : (S : List Point) (apart : AreApart S) (T : List Pair) (r r2 : List ℕ) (z : ℕ) → Swept S apart T r r2 z → AllIn (sweep_setting S apart) z
     → (p q : ℕ) → Links z r2 p q → IsBorderPair S p q
 upper_border S apart T r r2 z m all p q k =
-    let d : Side (length S) (IsSweptBefore S) (opposite S) (Joins T) (λ s. UpTo (IsSweptBefore S) s z) p q = m.upper.sides p q k in
-    (clear_from S apart p q d.before (clear_turned (sweep_setting S apart) (opposite S) (orientation S) (turned_back (orientation S) (opposite S) (opposite_turned S)) p q d.clear),
-     inr (λ s sn. swapped_side (orientation S p q s) (orientation S q p s) (area_swap (point S p) (point S q) (point S s)) (d.left s sn (all s sn))))
+    let d : Side (length S) (IsSweptBefore S) (opposite S) (Joins T) (λ s. UpTo (IsSweptBefore S) s z) p q = m.upper.sides p q k in (
+      clear_from S apart p q d.before (clear_turned (sweep_setting S apart) (opposite S) (orientation S) (turned_back (orientation S) (opposite S) (opposite_turned S)) p q d.clear),
+      inr (λ s sn. swapped_side (orientation S p q s) (orientation S q p s) (area_swap (point S p) (point S q) (point S s)) (d.left s sn (all s sn))),
+    )
 
 key_of : (e : Pair) (i j : ℕ) → i < j → HasEnds e i j → ends e ≡ key i j
 unfolding key
@@ -74,10 +75,12 @@ listed S B b i j h jn p =
 
 listed_any : (S : List Point) (apart : AreApart S) (B : List Pair) → IsBorderList S B → (i j : ℕ) → i < length S → j < length S → i ≢ j → IsBorderPair S i j → Contains (map ends B) (key i j)
 listed_any S apart B b i j iN jn hne p = elim (cases_order i j) [
-    inl e ↦ absurd (hne e)
+  | inl e ↦ absurd (hne e)
   | inr u ↦ elim u [
-        inl h ↦ listed S B b i j h jn p
-      | inr h ↦ subst (λ x. Contains (map ends B) x) (key_swap j i) (listed S B b j i h iN (border_swap S apart i j p)) ] ]
+    | inl h ↦ listed S B b i j h jn p
+    | inr h ↦ subst (λ x. Contains (map ends B) x) (key_swap j i) (listed S B b j i h iN (border_swap S apart i j p))
+  ]
+]
 
 side_differ : (S : List Point) (apart : AreApart S) (p q : ℕ) → IsSweptBefore S p q → p ≢ q
 side_differ S apart p q h e = let E : Setting = sweep_setting S apart in E.irrefl q (subst (λ x. E.B x q) e h)
@@ -97,62 +100,65 @@ pair_on_chains S apart T r r2 z m all B b e c =
     let p : IsBorderPair S e.lo e.hi = (b.exact e.lo e.hi o hn).0 (joins_own B e c) in
     let f : ends e ≡ key e.lo e.hi = key_of e e.lo e.hi o (inl (refl, refl)) in
     subst (λ x. Contains (chain_keys z r ++ chain_keys z r2) x) (sym f)
-        (elim (border_links S apart T r r2 z m all e.lo e.hi (omega arith) hn (λ g. not_same e.lo e.hi o g) p) [
-            inl k ↦ on_chains S apart T r r2 z e.lo e.hi k
-          | inr k ↦ subst (λ x. Contains (chain_keys z r ++ chain_keys z r2) x) (key_swap e.hi e.lo) (on_chains S apart T r r2 z e.hi e.lo k) ])
+    (elim (border_links S apart T r r2 z m all e.lo e.hi (omega arith) hn (λ g. not_same e.lo e.hi o g) p) [
+      | inl k ↦ on_chains S apart T r r2 z e.lo e.hi k
+      | inr k ↦ subst (λ x. Contains (chain_keys z r ++ chain_keys z r2) x) (key_swap e.hi e.lo) (on_chains S apart T r r2 z e.hi e.lo k)
+    ])
 
 ends_at : (S : List Point) (apart : AreApart S) (T : List Pair) (r r2 : List ℕ) (z : ℕ) → Swept S apart T r r2 z → AllIn (sweep_setting S apart) z
     → (B : List Pair) → IsBorderList S B → (k : ℕ) (x : Key) → k < length B → Contains (chain_keys z r ++ chain_keys z r2) (get_or (map ends B) k x)
 ends_at S apart T r r2 z m all [] b k x h = absurd (omega arith)
 ends_at S apart T r r2 z m all (e ∷ B) b k x h =
     subst (λ y. Contains (chain_keys z r ++ chain_keys z r2) y) (sym (get_or-map ends (e ∷ B) k e x h))
-        (pair_on_chains S apart T r r2 z m all (e ∷ B) b (get_or (e ∷ B) k e) (Contains-get_or (e ∷ B) k e h))
+    (pair_on_chains S apart T r r2 z m all (e ∷ B) b (get_or (e ∷ B) k e) (Contains-get_or (e ∷ B) k e h))
 
 ends_on_chains : (S : List Point) (apart : AreApart S) (T : List Pair) (r r2 : List ℕ) (z : ℕ) → Swept S apart T r r2 z → AllIn (sweep_setting S apart) z
     → (B : List Pair) → IsBorderList S B → (q : Key) → Contains (map ends B) q → Contains (chain_keys z r ++ chain_keys z r2) q
 ends_on_chains S apart T r r2 z m all B b q c =
     All-contains (λ x. Contains (chain_keys z r ++ chain_keys z r2) x) (map ends B) q
-        (λ k x hk. (let h : k < length B = omega (arith, length-map B ends) in ends_at S apart T r r2 z m all B b k x h)) c
+    (λ k x hk. (let h : k < length B = omega (arith, length-map B ends) in ends_at S apart T r r2 z m all B b k x h)) c
 
 chains_listed : (S : List Point) (apart : AreApart S) (T : List Pair) (r r2 : List ℕ) (z : ℕ) → Swept S apart T r r2 z → AllIn (sweep_setting S apart) z
     → (B : List Pair) → IsBorderList S B → (q : Key) → Contains (chain_keys z r ++ chain_keys z r2) q → Contains (map ends B) q
 chains_listed S apart T r r2 z m all B b q c = elim (Contains-append_cases (chain_keys z r) (chain_keys z r2) q c) [
-    inl k ↦ All-contains (λ x. Contains (map ends B) x) (chain_keys z r) q
-        (all_keys (λ x. Contains (map ends B) x) z r (λ i j l.
-            (let d : Side (length S) (IsSweptBefore S) (orientation S) (Joins T) (λ s. UpTo (IsSweptBefore S) s z) i j = m.lower.sides i j l in
-             listed_any S apart B b i j d.a_in d.b_in (side_differ S apart i j d.before) (lower_border S apart T r r2 z m all i j l)))) k
+  | inl k ↦ All-contains (λ x. Contains (map ends B) x) (chain_keys z r) q
+      (all_keys (λ x. Contains (map ends B) x) z r (λ i j l.
+      (let d : Side (length S) (IsSweptBefore S) (orientation S) (Joins T) (λ s. UpTo (IsSweptBefore S) s z) i j = m.lower.sides i j l in
+      listed_any S apart B b i j d.a_in d.b_in (side_differ S apart i j d.before) (lower_border S apart T r r2 z m all i j l)))) k
   | inr k ↦ All-contains (λ x. Contains (map ends B) x) (chain_keys z r2) q
-        (all_keys (λ x. Contains (map ends B) x) z r2 (λ i j l.
-            (let d : Side (length S) (IsSweptBefore S) (opposite S) (Joins T) (λ s. UpTo (IsSweptBefore S) s z) i j = m.upper.sides i j l in
-             listed_any S apart B b i j d.a_in d.b_in (side_differ S apart i j d.before) (upper_border S apart T r r2 z m all i j l)))) k ]
+      (all_keys (λ x. Contains (map ends B) x) z r2 (λ i j l.
+      (let d : Side (length S) (IsSweptBefore S) (opposite S) (Joins T) (λ s. UpTo (IsSweptBefore S) s z) i j = m.upper.sides i j l in
+      listed_any S apart B b i j d.a_in d.b_in (side_differ S apart i j d.before) (upper_border S apart T r r2 z m all i j l)))) k
+]
 
 upper_apart : (S : List Point) (apart : AreApart S) → AreSpread S → (T : List Pair) (r r2 : List ℕ) (z : ℕ) → Swept S apart T r r2 z → AllIn (sweep_setting S apart) z
     → (p q : ℕ) → Links z r p q → All (λ (y : Key). key p q ≢ y) (chain_keys z r2)
 upper_apart S apart spread T r r2 z m all p q k =
     all_keys (λ (y : Key). key p q ≢ y) z r2 (λ i j l e.
-        (let d : Side (length S) (IsSweptBefore S) (orientation S) (Joins T) (λ s. UpTo (IsSweptBefore S) s z) p q = m.lower.sides p q k in
-         let f : Side (length S) (IsSweptBefore S) (opposite S) (Joins T) (λ s. UpTo (IsSweptBefore S) s z) i j = m.upper.sides i j l in
-         elim (key_cases p q i j e) [
-            inl g ↦ not_shared S apart spread T r r2 z m all p q k (subst₂ (λ x y. Links z r2 x y) (sym g.0) (sym g.1) l)
-          | inr g ↦ not_both (sweep_setting S apart) p q d.before (subst₂ (λ x y. IsSweptBefore S x y) (sym g.1) (sym g.0) f.before) ]))
+    (let d : Side (length S) (IsSweptBefore S) (orientation S) (Joins T) (λ s. UpTo (IsSweptBefore S) s z) p q = m.lower.sides p q k in
+    let f : Side (length S) (IsSweptBefore S) (opposite S) (Joins T) (λ s. UpTo (IsSweptBefore S) s z) i j = m.upper.sides i j l in
+    elim (key_cases p q i j e) [
+      | inl g ↦ not_shared S apart spread T r r2 z m all p q k (subst₂ (λ x y. Links z r2 x y) (sym g.0) (sym g.1) l)
+      | inr g ↦ not_both (sweep_setting S apart) p q d.before (subst₂ (λ x y. IsSweptBefore S x y) (sym g.1) (sym g.0) f.before)
+    ]))
 
 chains_distinct : (S : List Point) (apart : AreApart S) → AreSpread S → (T : List Pair) (r r2 : List ℕ) (z : ℕ) → Swept S apart T r r2 z → AllIn (sweep_setting S apart) z
     → AllPairs (λ (x y : Key). x ≢ y) (chain_keys z r ++ chain_keys z r2)
 chains_distinct S apart spread T r r2 z m all =
     let E : Setting = sweep_setting S apart in
     let up : AllPairs (λ (x y : Key). x ≢ y) (chain_keys z r2 ++ []) =
-        keys_distinct E z r2 [] (λ a b k. (let f : Side (length S) (IsSweptBefore S) (opposite S) (Joins T) (λ s. UpTo (IsSweptBefore S) s z) a b = m.upper.sides a b k in f.before)) (λ i j d hij hj. absurd (omega arith)) (λ p q k i d h. absurd (omega arith)) in
+    keys_distinct E z r2 [] (λ a b k. (let f : Side (length S) (IsSweptBefore S) (opposite S) (Joins T) (λ s. UpTo (IsSweptBefore S) s z) a b = m.upper.sides a b k in f.before)) (λ i j d hij hj. absurd (omega arith)) (λ p q k i d h. absurd (omega arith)) in
     keys_distinct E z r (chain_keys z r2) (λ a b k. (let f : Side (length S) (IsSweptBefore S) (orientation S) (Joins T) (λ s. UpTo (IsSweptBefore S) s z) a b = m.lower.sides a b k in f.before))
-        (subst (λ xs. AllPairs (λ (x y : Key). x ≢ y) xs) (append-nil (chain_keys z r2)) up)
-        (upper_apart S apart spread T r r2 z m all)
+    (subst (λ xs. AllPairs (λ (x y : Key). x ≢ y) xs) (append-nil (chain_keys z r2)) up)
+    (upper_apart S apart spread T r r2 z m all)
 
 -- as many border pairs as sides
 pub border_count : (S : List Point) (apart : AreApart S) → AreSpread S → (T : List Pair) (r r2 : List ℕ) (z : ℕ) → Swept S apart T r r2 z → AllIn (sweep_setting S apart) z
     → (B : List Pair) → IsBorderList S B → length B ≡ length r + length r2
 border_count S apart spread T r r2 z m all B b =
     let e : length (map ends B) ≡ length (chain_keys z r ++ chain_keys z r2) =
-        same_length (map ends B) (chain_keys z r ++ chain_keys z r2) (pairs_distinct B b.distinct) (chains_distinct S apart spread T r r2 z m all)
-            (ends_on_chains S apart T r r2 z m all B b) (chains_listed S apart T r r2 z m all B b) in
+    same_length (map ends B) (chain_keys z r ++ chain_keys z r2) (pairs_distinct B b.distinct) (chains_distinct S apart spread T r r2 z m all)
+    (ends_on_chains S apart T r r2 z m all B b) (chains_listed S apart T r r2 z m all B b) in
     omega (arith, length-map B ends, length-append (chain_keys z r) (chain_keys z r2), keys_count z r, keys_count z r2)
 
 pub triangulation_count : (S : List Point) (apart : AreApart S) → AreSpread S → (T : List Pair) (r r2 : List ℕ) (z : ℕ) → Swept S apart T r r2 z → AllIn (sweep_setting S apart) z

@@ -1,36 +1,25 @@
 -- How many border pairs there are: as many as the two chains have sides.
-use Rattle.std.proofs.Common.{◌≡◌, ◌≢◌, ℕ, zero, suc, ℤ, pos, neg_ℤ, ◌<◌, ◌≤◌, ◌+◌, ◌*◌, ◌⊎◌, inl, inr, min, max, List, [], ◌∷◌, ◌++◌, length, get_or, map, Bool, true, false, true≢false, eqb, sym, ◌∙◌, ap, ap₂, refl, subst, subst₂, arith, length-append}
-use Rattle.std.specs.Prelude.{◌<ℤ◌, ◌≤ℤ◌, ◌&&◌}
-use Rattle.std.specs.List.{All, AllPairs, Any, Contains, IsDistinct, list_any}
+use Rattle.std.proofs.Common.{◌≡◌, ◌≢◌, ℕ, zero, suc, ◌<◌, ◌≤◌, ◌⊎◌, inl, inr, min, max, List, [], ◌∷◌, ◌++◌, length, get_or, map, Bool, true, false, eqb, sym, ◌∙◌, ap, ap₂, refl, subst, subst₂, arith}
+use Rattle.std.specs.Prelude.{◌&&◌}
+use Rattle.std.specs.List.{All, AllPairs, Any, Contains, IsDistinct}
 use Rattle.std.specs.Cmp.{IsEquivalence}
 use Rattle.std.specs.Set.{is_member}
 use Rattle.std.proofs.lemmas.Cmp.{and_equiv, on_equiv, nat_eq_equiv}
 use Rattle.std.proofs.lemmas.Bool.Decides.{nat_tests}
 use Rattle.std.proofs.lemmas.Bool.{cases_order}
 use Rattle.std.proofs.lemmas.List.{get_or-map, length-map}
-use Rattle.std.proofs.lemmas.List.Folds.{list_any_at, list_any-from_Any, Any-from_list_any}
-use Rattle.std.proofs.lemmas.List.Elements.{All-cons, All-nil, All-append, All-contains, Contains-get_or, Contains-append_left, Contains-append_right, Contains-append_cases}
+use Rattle.std.proofs.lemmas.List.Folds.{list_any_at, Any-from_list_any}
+use Rattle.std.proofs.lemmas.List.Elements.{All-cons, All-nil, All-append}
 use Rattle.std.proofs.lemmas.List.Kept.{AllPairs-cons}
 use Rattle.std.proofs.lemmas.Map.Keys.{IsDistinct-from_apart}
 use Rattle.std.proofs.lemmas.Map.Made.{length-le_from_is_member}
-use Rattle.std.proofs.lemmas.Int.{ints}
 use Rattle.std.proofs.Math.Bridge.{le_prop}
-use Rattle.plane.specs.declared.coordinates.Point.{Point}
 use Rattle.plane.specs.declared.segment.Pair.{Pair, ordered-type}
-use Rattle.plane.specs.Geometry.{point, orientation, IsBorderPair}
-use Rattle.plane.specs.Accepted.{AreApart, AreSpread}
-use Rattle.plane_laws.proofs.Orientations.{all_in_line}
-use Rattle.partition_defs.specs.Partition.{Joins, HasEnds}
-use Rattle.partition_defs.specs.Triangulation.{AreDistinct, IsBorderList}
-use Rattle.partition_defs.specs.Sweep.{IsSweptBefore}
+use Rattle.partition_defs.specs.Triangulation.{AreDistinct}
 use Rattle.triangulate.specs.Sides.{UpTo}
-use Rattle.triangulate.specs.State.{Links, Side, Chain, Whole}
-use Rattle.triangulate.specs.Swept.{opposite}
+use Rattle.triangulate.specs.State.{Links}
 use Rattle.triangulate.proofs.Field.{Setting, up_to_before}
 use Rattle.triangulate.proofs.Moves.{link_below}
-use Rattle.triangulate.proofs.Final.{All as AllIn}
-use Rattle.triangulate.proofs.Places.{sweep_setting}
-use Rattle.triangulate.proofs.Triangulated.{Swept, border_links, clear_from, border_swap}
 
 -- two numbers, the smaller first, as a pair's ends
 abbrev pub Key : Type 0
@@ -95,10 +84,12 @@ key_cases s t p q e =
     let lo : min s t ≡ min p q = ap (λ (x : Key). x.0) e in
     let hi : max s t ≡ max p q = ap (λ (x : Key). x.1) e in
     elim (cases_order s t) [
-        inl f ↦ inl (omega arith, omega arith)
+      | inl f ↦ inl (omega arith, omega arith)
       | inr u ↦ elim u [
-            inl f ↦ elim (cases_order p q) [ inl g ↦ inl (omega arith, omega arith) | inr v ↦ elim v [ inl g ↦ inl (omega arith, omega arith) | inr g ↦ inr (omega arith, omega arith) ] ]
-          | inr f ↦ elim (cases_order p q) [ inl g ↦ inl (omega arith, omega arith) | inr v ↦ elim v [ inl g ↦ inr (omega arith, omega arith) | inr g ↦ inl (omega arith, omega arith) ] ] ] ]
+        | inl f ↦ elim (cases_order p q) [ inl g ↦ inl (omega arith, omega arith) | inr v ↦ elim v [ inl g ↦ inl (omega arith, omega arith) | inr g ↦ inr (omega arith, omega arith) ] ]
+        | inr f ↦ elim (cases_order p q) [ inl g ↦ inl (omega arith, omega arith) | inr v ↦ elim v [ inl g ↦ inr (omega arith, omega arith) | inr g ↦ inl (omega arith, omega arith) ] ]
+      ]
+    ]
 
 -- the side s-t is none of those before s
 head_apart : (E : Setting) (s t : ℕ) (r : List ℕ) → ((a b : ℕ) → Links t (s ∷ r) a b → E.B a b) → (p q : ℕ) → Links s r p q → key s t ≢ key p q
@@ -108,8 +99,9 @@ head_apart E s t r rising p q k e =
     let hqs : UpTo E.B q s = link_below E s r (λ a b l. rising a b (inr l)) p q k in
     let hqt : E.B q t = up_to_before E q s t hqs hst in
     elim (key_cases s t p q e) [
-        inl f ↦ E.irrefl t (subst (λ x. E.B x t) (sym f.1) hqt)
-      | inr f ↦ E.irrefl t (subst (λ x. E.B x t) (sym f.1) (E.trans p q t hpq hqt)) ]
+      | inl f ↦ E.irrefl t (subst (λ x. E.B x t) (sym f.1) hqt)
+      | inr f ↦ E.irrefl t (subst (λ x. E.B x t) (sym f.1) (E.trans p q t hpq hqt))
+    ]
 
 pub keys_distinct : (E : Setting) (t : ℕ) (r : List ℕ) (rest : List Key) → ((a b : ℕ) → Links t r a b → E.B a b) → AllPairs (λ (x y : Key). x ≢ y) rest
     → ((p q : ℕ) → Links t r p q → All (λ (y : Key). key p q ≢ y) rest) → AllPairs (λ (x y : Key). x ≢ y) (chain_keys t r ++ rest)
@@ -117,16 +109,16 @@ unfolding chain_keys
 keys_distinct E t [] rest rising d apart = d
 keys_distinct E t (s ∷ r) rest rising d apart =
     AllPairs-cons (λ (x y : Key). x ≢ y) (key s t) (chain_keys s r ++ rest)
-        (All-append (λ (y : Key). key s t ≢ y) (chain_keys s r) rest
-            (all_keys (λ (y : Key). key s t ≢ y) s r (λ p q k. head_apart E s t r rising p q k)) (apart s t (inl (refl, refl))))
-        (keys_distinct E s r rest (λ a b k. rising a b (inr k)) d (λ p q k. apart p q (inr k)))
+    (All-append (λ (y : Key). key s t ≢ y) (chain_keys s r) rest
+    (all_keys (λ (y : Key). key s t ≢ y) s r (λ p q k. head_apart E s t r rising p q k)) (apart s t (inl (refl, refl))))
+    (keys_distinct E s r rest (λ a b k. rising a b (inr k)) d (λ p q k. apart p q (inr k)))
 
 distinct_from : (xs : List Key) → AllPairs (λ (x y : Key). x ≢ y) xs → IsDistinct same xs
 distinct_from xs d = IsDistinct-from_apart same xs
     (λ i j x hij hj. not_true (same (get_or xs i x) (get_or xs j x))
-        (λ e. d i j x hij hj (ap₂ (λ (a b : ℕ). (let u : Key = (a, b) in u))
-            (first_of_true (get_or xs i x).0 (get_or xs i x).1 (get_or xs j x).0 (get_or xs j x).1 e)
-            (second_of_true (get_or xs i x).0 (get_or xs i x).1 (get_or xs j x).0 (get_or xs j x).1 e))))
+    (λ e. d i j x hij hj (ap₂ (λ (a b : ℕ). (let u : Key = (a, b) in u))
+    (first_of_true (get_or xs i x).0 (get_or xs i x).1 (get_or xs j x).0 (get_or xs j x).1 e)
+    (second_of_true (get_or xs i x).0 (get_or xs i x).1 (get_or xs j x).0 (get_or xs j x).1 e))))
 
 -- pairs with the same ends are the same
 made : (a b : ℕ) → ordered-type a b → Pair

@@ -1,5 +1,5 @@
 -- Points in an order, with a sign for each three of them.
-use Rattle.std.proofs.Common.{◌≡◌, ℕ, ℤ, pos, ◌+ℤ◌, ◌-ℤ◌, neg_ℤ, arith, ◌<◌, ◌⊎◌, inl, inr, sym, ◌∙◌, ap, refl, subst}
+use Rattle.std.proofs.Common.{◌≡◌, ℕ, ℤ, pos, neg_ℤ, arith, ◌<◌, ◌⊎◌, inl, inr, sym, ◌∙◌, ap, subst}
 use Rattle.std.specs.Prelude.{◌<ℤ◌, ◌≤ℤ◌}
 use Rattle.std.proofs.lemmas.Int.{ints}
 use Rattle.plane_laws.specs.Order.{AreInOrder}
@@ -28,20 +28,20 @@ turned_back o w h i j k = let e : w i j k ≡ neg_ℤ (o i j k) = h i j k in ome
 
 pub turned_order : (a b c d : ℤ) → AreInOrder a b c d → AreInOrder (neg_ℤ a) (neg_ℤ b) (neg_ℤ c) (neg_ℤ d)
 turned_order a b c d q = record {
-    sum = omega (arith, ints, q.sum);
-    rises = λ g h. let r : b ≤ℤ a = q.falls (omega (arith, ints)) (omega (arith, ints)) in omega (arith, ints);
-    rises_first = λ g h. let r : b <ℤ a = q.falls_first (omega (arith, ints)) (omega (arith, ints)) in omega (arith, ints);
-    rises_last = λ g h. let r : b <ℤ a = q.falls_last (omega (arith, ints)) (omega (arith, ints)) in omega (arith, ints);
-    falls = λ g h. let r : a ≤ℤ b = q.rises (omega (arith, ints)) (omega (arith, ints)) in omega (arith, ints);
-    falls_first = λ g h. let r : a <ℤ b = q.rises_first (omega (arith, ints)) (omega (arith, ints)) in omega (arith, ints);
-    falls_last = λ g h. let r : a <ℤ b = q.rises_last (omega (arith, ints)) (omega (arith, ints)) in omega (arith, ints)
+  sum = omega (arith, ints, q.sum);
+  rises = λ g h. let r : b ≤ℤ a = q.falls (omega (arith, ints)) (omega (arith, ints)) in omega (arith, ints);
+  rises_first = λ g h. let r : b <ℤ a = q.falls_first (omega (arith, ints)) (omega (arith, ints)) in omega (arith, ints);
+  rises_last = λ g h. let r : b <ℤ a = q.falls_last (omega (arith, ints)) (omega (arith, ints)) in omega (arith, ints);
+  falls = λ g h. let r : a ≤ℤ b = q.rises (omega (arith, ints)) (omega (arith, ints)) in omega (arith, ints);
+  falls_first = λ g h. let r : a <ℤ b = q.rises_first (omega (arith, ints)) (omega (arith, ints)) in omega (arith, ints);
+  falls_last = λ g h. let r : a <ℤ b = q.rises_last (omega (arith, ints)) (omega (arith, ints)) in omega (arith, ints);
 }
 
 pub turned_laws : (E : Setting) (o : ℕ → ℕ → ℕ → ℤ) → Laws E o → Laws E (λ i j k. neg_ℤ (o i j k))
 turned_laws E o L = record {
-    cycle = λ i j k. ap neg_ℤ (L.cycle i j k);
-    swap = λ i j k. ap neg_ℤ (L.swap i j k);
-    order = λ i j k l p q r. turned_order (o i j k) (o i j l) (o i k l) (o j k l) (L.order i j k l p q r)
+  cycle = λ i j k. ap neg_ℤ (L.cycle i j k);
+  swap = λ i j k. ap neg_ℤ (L.swap i j k);
+  order = λ i j k l p q r. turned_order (o i j k) (o i j l) (o i k l) (o j k l) (L.order i j k l p q r);
 }
 
 -- the last two turned round

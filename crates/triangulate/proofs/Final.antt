@@ -1,12 +1,10 @@
 -- What the state says when all points are in it.
-use Rattle.std.proofs.Common.{◌≡◌, ◌≢◌, ℕ, ℤ, pos, neg_ℤ, ◌<◌, ◌⊎◌, inl, inr, sym, ◌∙◌, ap, refl, subst, subst₂, List, [], ◌∷◌, arith}
+use Rattle.std.proofs.Common.{◌≡◌, ◌≢◌, ℕ, ℤ, pos, neg_ℤ, ◌<◌, ◌⊎◌, inl, inr, sym, subst, subst₂, List, arith}
 use Rattle.std.specs.Prelude.{◌<ℤ◌, ◌≤ℤ◌}
 use Rattle.std.proofs.lemmas.Int.{ints}
-use Rattle.triangulate.proofs.Field.{Setting, Laws, AreTurned, turned_back, by_place, not_both, up_to_before, before_up_to, up_to_not_before, flip, zero_ends, zero_first, zero_last}
-use Rattle.triangulate.proofs.Turns.{Spine, opposite_turned}
+use Rattle.triangulate.proofs.Field.{Setting, Laws, AreTurned, by_place, before_up_to, zero_last}
+use Rattle.triangulate.proofs.Turns.{opposite_turned}
 use Rattle.triangulate.proofs.Sides.{one_side}
-
-use Rattle.triangulate.proofs.Step.{at}
 use Rattle.triangulate.specs.Sides.{UpTo, Clear, Cross}
 use Rattle.triangulate.specs.State.{Links, Side, Covered, Chain, Sweeps, Apex, Pairs, Met, Whole}
 
@@ -30,10 +28,12 @@ clash_left x y e g h = absurd (omega (arith, ints))
 pub apex_of : (E : Setting) (o w : ℕ → ℕ → ℕ → ℤ) → Laws E o → AreTurned o w → (J : ℕ → ℕ → Type 0) (r r2 : List ℕ) (z : ℕ) → Whole E.n E.B o w J r r2 z → All E z
     → (p q s : ℕ) → J p q → s < E.n → pos 0 <ℤ o p q s → Apex E.n E.B o J p q
 apex_of E o w L tr J r r2 z m all p q s j sn h = elim (m.apex p q j) [
-    inl x ↦ x
+  | inl x ↦ x
   | inr x ↦ elim x [
-        inl k ↦ (let d : Side E.n E.B o J (λ s. UpTo E.B s z) q p = m.lower.sides q p k in clash_left (o p q s) (o q p s) (L.swap p q s) h (d.left s sn (all s sn)))
-      | inr k ↦ (let d : Side E.n E.B w J (λ s. UpTo E.B s z) p q = m.upper.sides p q k in clash_left (o p q s) (w p q s) (tr p q s) h (d.left s sn (all s sn))) ] ]
+    | inl k ↦ (let d : Side E.n E.B o J (λ s. UpTo E.B s z) q p = m.lower.sides q p k in clash_left (o p q s) (o q p s) (L.swap p q s) h (d.left s sn (all s sn)))
+    | inr k ↦ (let d : Side E.n E.B w J (λ s. UpTo E.B s z) p q = m.upper.sides p q k in clash_left (o p q s) (w p q s) (tr p q s) h (d.left s sn (all s sn)))
+  ]
+]
 
 zero_kept : (x y : ℤ) → y ≡ neg_ℤ x → y ≡ pos 0 → x ≡ pos 0
 zero_kept x y e h = omega (arith, ints)
@@ -52,7 +52,7 @@ border_of E o w L M tr J r r2 z m all i j iN jn hij clear (inl left) =
     inl (on_chain E o L J z r m.lower all i j iN jn hij clear left)
 border_of E o w L M tr J r r2 z m all i j iN jn hij clear (inr left) =
     inr (on_chain E w M J z r2 m.upper all i j iN jn hij (clear_turned E o w tr i j clear)
-        (λ s sn. weak_turned (o i j s) (w i j s) (o j i s) (L.swap i j s) (tr i j s) (left s sn)))
+    (λ s sn. weak_turned (o i j s) (w i j s) (o j i s) (L.swap i j s) (tr i j s) (left s sn)))
 
 pub linked : (E : Setting) (o w : ℕ → ℕ → ℕ → ℤ) (J : ℕ → ℕ → Type 0) (r r2 : List ℕ) (z : ℕ) → Whole E.n E.B o w J r r2 z → (i j : ℕ) → Links z r i j ⊎ Links z r2 i j → J i j
 linked E o w J r r2 z m i j (inl k) = (let d : Side E.n E.B o J (λ s. UpTo E.B s z) i j = m.lower.sides i j k in d.joined)
@@ -68,17 +68,19 @@ met_below E o J z r c met p pn h =
 pub met_of : (E : Setting) (o w : ℕ → ℕ → ℕ → ℤ) (J : ℕ → ℕ → Type 0) (r r2 : List ℕ) (z : ℕ) → Whole E.n E.B o w J r r2 z → All E z
     → (u : ℕ) → u < E.n → u ≢ z → (p : ℕ) → p < E.n → (q : ℕ) × J p q
 met_of E o w J r r2 z m all u un hu p pn = elim (all p pn) [
-    inl e ↦ elim (all u un) [ inl f ↦ absurd (hu f) | inr g ↦ m.met p u pn (inl e) un (subst (λ x. E.B u x) (sym e) g) ]
-  | inr h ↦ met_below E o J z r m.lower m.met p pn h ]
+  | inl e ↦ elim (all u un) [ inl f ↦ absurd (hu f) | inr g ↦ m.met p u pn (inl e) un (subst (λ x. E.B u x) (sym e) g) ]
+  | inr h ↦ met_below E o J z r m.lower m.met p pn h
+]
 
 -- no two of the pairs cross
 cross_back : (o : ℕ → ℕ → ℕ → ℤ) (a b c d : ℕ) → Cross o a b c d → Cross o c d a b
 cross_back o a b c d h = (h.1, h.0)
 
 cross_first : (E : Setting) (o : ℕ → ℕ → ℕ → ℤ) → Laws E o → (a b c d : ℕ) → Cross o a b c d → Cross o b a c d
-cross_first E o L a b c d h =
-    (opposite_turned (o a b c) (o a b d) (o b a c) (o b a d) (L.swap a b c) (L.swap a b d) h.0,
-     elim h.1 [ inl g ↦ inr (g.1, g.0) | inr g ↦ inl (g.1, g.0) ])
+cross_first E o L a b c d h = (
+  opposite_turned (o a b c) (o a b d) (o b a c) (o b a d) (L.swap a b c) (L.swap a b d) h.0,
+  elim h.1 [ inl g ↦ inr (g.1, g.0) | inr g ↦ inl (g.1, g.0) ],
+)
 
 clash_zero : (x : ℤ) → x ≡ pos 0 → (pos 0 <ℤ x) ⊎ (x <ℤ pos 0) → ⊥
 clash_zero x e (inl h) = omega (arith, ints)
@@ -92,24 +94,24 @@ plane_ordered : (E : Setting) (o : ℕ → ℕ → ℕ → ℤ) → Laws E o →
 plane_ordered E o L J z m p q k l j i hpq hkl c =
     let pn = m.in_first p q j in let qn = m.in_first q p (m.back p q j) in let kn = m.in_first k l i in let ln = m.in_first l k (m.back k l i) in
     by_place E q l qn ln
-        (λ h. (let s : Sweeps E.n E.B o k l = m.sweeps k l i hkl in s.alone p q pn qn (E.trans p q l hpq h) h (cross_back o p q k l c)))
-        (λ e. cross_none E o L p q k (subst (λ x. Cross o p q k x) (sym e) c))
-        (λ h. (let s : Sweeps E.n E.B o p q = m.sweeps p q j hpq in s.alone k l kn ln (E.trans k l q hkl h) h c))
+    (λ h. (let s : Sweeps E.n E.B o k l = m.sweeps k l i hkl in s.alone p q pn qn (E.trans p q l hpq h) h (cross_back o p q k l c)))
+    (λ e. cross_none E o L p q k (subst (λ x. Cross o p q k x) (sym e) c))
+    (λ h. (let s : Sweeps E.n E.B o p q = m.sweeps p q j hpq in s.alone k l kn ln (E.trans k l q hkl h) h c))
 
 plane_second : (E : Setting) (o : ℕ → ℕ → ℕ → ℤ) → Laws E o → (J : ℕ → ℕ → Type 0) (z : ℕ) → Pairs E.n E.B o J z
     → (p q k l : ℕ) → J p q → J k l → E.B p q → ¬ Cross o p q k l
 plane_second E o L J z m p q k l j i hpq c =
     let kn = m.in_first k l i in let ln = m.in_first l k (m.back k l i) in
     by_place E k l kn ln
-        (λ h. plane_ordered E o L J z m p q k l j i hpq h c)
-        (λ e. m.differ k l i e)
-        (λ h. plane_ordered E o L J z m p q l k j (m.back k l i) hpq h (cross_back o l k p q (cross_first E o L k l p q (cross_back o p q k l c))))
+    (λ h. plane_ordered E o L J z m p q k l j i hpq h c)
+    (λ e. m.differ k l i e)
+    (λ h. plane_ordered E o L J z m p q l k j (m.back k l i) hpq h (cross_back o l k p q (cross_first E o L k l p q (cross_back o p q k l c))))
 
 pub plane_of : (E : Setting) (o : ℕ → ℕ → ℕ → ℤ) → Laws E o → (J : ℕ → ℕ → Type 0) (z : ℕ) → Pairs E.n E.B o J z
     → (p q k l : ℕ) → J p q → J k l → ¬ Cross o p q k l
 plane_of E o L J z m p q k l j i c =
     let pn = m.in_first p q j in let qn = m.in_first q p (m.back p q j) in
     by_place E p q pn qn
-        (λ h. plane_second E o L J z m p q k l j i h c)
-        (λ e. m.differ p q j e)
-        (λ h. plane_second E o L J z m q p k l (m.back p q j) i h (cross_first E o L p q k l c))
+    (λ h. plane_second E o L J z m p q k l j i h c)
+    (λ e. m.differ p q j e)
+    (λ h. plane_second E o L J z m q p k l (m.back p q j) i h (cross_first E o L p q k l c))

@@ -1,6 +1,6 @@
 -- Joining one more point, on the lists of pairs and of points that the code keeps.
-use Rattle.std.proofs.Common.{◌≡◌, ◌≢◌, ℕ, ℤ, pos, neg_ℤ, ◌<◌, ◌+◌, ◌*◌, ◌⊎◌, inl, inr, min, max, List, [], ◌∷◌, ◌++◌, length, get_or, sym, ◌∙◌, ap, refl, subst, arith, length-append}
-use Rattle.std.specs.Prelude.{◌<ℤ◌, ◌≤ℤ◌}
+use Rattle.std.proofs.Common.{◌≡◌, ◌≢◌, ℕ, ℤ, pos, ◌<◌, ◌+◌, ◌*◌, ◌⊎◌, inl, inr, min, max, List, [], ◌∷◌, ◌++◌, length, get_or, sym, ◌∙◌, refl, subst, arith, length-append}
+use Rattle.std.specs.Prelude.{◌<ℤ◌}
 use Rattle.std.specs.List.{All, Contains}
 use Rattle.std.proofs.lemmas.List.Elements.{All-tail, Contains-append_left, Contains-push, Contains-push_cases, Contains-get_or}
 use Rattle.std.proofs.lemmas.List.Quantifiers.{all_pairs_push}
@@ -15,7 +15,7 @@ use Rattle.partition_defs.specs.Sweep.{IsSweptBefore}
 use Rattle.triangulate.specs.declared.sweep.Part.{Part}
 use Rattle.triangulate.specs.declared.sweep.Part.TheVariants.{Lower, Upper}
 use Rattle.triangulate.specs.Chains.{shortened}
-use Rattle.triangulate.specs.State.{Side, Joining, Links}
+use Rattle.triangulate.specs.State.{Side}
 use Rattle.triangulate.specs.Swept.{opposite, turn, other_turn, AreJoining, IsJoining, IsSeen}
 use Rattle.triangulate.proofs.Field.{Setting, Laws, AreTurned, turned_back}
 use Rattle.triangulate.proofs.State.{Adds}
@@ -26,8 +26,9 @@ use Rattle.triangulate.proofs.Places.{sweep_setting, plane_laws, opposite_laws, 
 -- a pair made of two points has these ends
 pub ends_of_new : (e : Pair) (a z : ℕ) → e.lo ≡ min a z → e.hi ≡ max a z → HasEnds e a z
 ends_of_new e a z hl hh = elim (cases_order a z) [
-    inl f ↦ inl (omega arith, omega arith)
-  | inr q ↦ elim q [ inl f ↦ inl (omega arith, omega arith) | inr f ↦ inr (omega arith, omega arith) ] ]
+  | inl f ↦ inl (omega arith, omega arith)
+  | inr q ↦ elim q [ inl f ↦ inl (omega arith, omega arith) | inr f ↦ inr (omega arith, omega arith) ]
+]
 
 same_ends : (e : Pair) (a z p q : ℕ) → HasEnds e a z → HasEnds e p q → ((p ≡ a) × (q ≡ z)) ⊎ ((p ≡ z) × (q ≡ a))
 same_ends e a z p q (inl g) (inl h) = inl (sym h.0 ∙ g.0, sym h.1 ∙ g.1)
@@ -47,18 +48,19 @@ joins_contains T i j h = (h.0, h.2, h.3)
 
 pub push_adds : (T : List Pair) (e : Pair) (a z : ℕ) → HasEnds e a z → Adds (Joins T) (Joins (T ++ e ∷ [])) a z
 push_adds T e a z h = record {
-    old = λ p q j. joins_from (T ++ e ∷ []) j.1 p q (Contains-append_left T (e ∷ []) j.1 (joins_contains T p q j)) j.4;
-    new = joins_from (T ++ e ∷ []) e a z (Contains-push T e) h;
-    back = joins_from (T ++ e ∷ []) e z a (Contains-push T e) (ends_back e a z h);
-    only = λ p q j. elim (Contains-push_cases T e j.1 (joins_contains (T ++ e ∷ []) p q j)) [
-        inl c ↦ inl (joins_from T j.1 p q c j.4)
-      | inr f ↦ inr (same_ends e a z p q h (subst (λ x. HasEnds x p q) (sym f) j.4)) ]
+  old = λ p q j. joins_from (T ++ e ∷ []) j.1 p q (Contains-append_left T (e ∷ []) j.1 (joins_contains T p q j)) j.4;
+  new = joins_from (T ++ e ∷ []) e a z (Contains-push T e) h;
+  back = joins_from (T ++ e ∷ []) e z a (Contains-push T e) (ends_back e a z h);
+  only = λ p q j. elim (Contains-push_cases T e j.1 (joins_contains (T ++ e ∷ []) p q j)) [
+    | inl c ↦ inl (joins_from T j.1 p q c j.4)
+    | inr f ↦ inr (same_ends e a z p q h (subst (λ x. HasEnds x p q) (sym f) j.4))
+  ];
 }
 
 pub push_distinct : (T : List Pair) (e : Pair) (a z : ℕ) → HasEnds e a z → ¬ Joins T a z → AreDistinct T → AreDistinct (T ++ e ∷ [])
 push_distinct T e a z h none d =
     all_pairs_push (λ x y. x ≢ y) T e d
-        (λ k x hk f. none (joins_from T (get_or T k x) a z (Contains-get_or T k x hk) (subst (λ y. HasEnds y a z) (sym f) h)))
+    (λ k x hk f. none (joins_from T (get_or T k x) a z (Contains-get_or T k x hk) (subst (λ y. HasEnds y a z) (sym f) h)))
 
 pub part_laws : (S : List Point) (apart : AreApart S) (part : Part) → Laws (sweep_setting S apart) (turn part S)
 part_laws S apart Lower = plane_laws S apart
@@ -106,12 +108,12 @@ step_joining S part T l l2 z last k a e hl hh seen m =
     let chains : AreJoining S (turn part S) (other_turn part S) T (seen.b ∷ (a ∷ seen.r)) l2 z last = subst (λ xs. AreJoining S (turn part S) (other_turn part S) T xs l2 z last) seen.is m.chains in
     let count : length T + length (seen.b ∷ (a ∷ seen.r)) + length l2 ≡ 3 * k = subst (λ xs. length T + length xs + length l2 ≡ 3 * k) seen.is m.count in
     subst (λ xs. IsJoining S (turn part S) (other_turn part S) (T ++ e ∷ []) (shortened xs) l2 z last k) (sym seen.is)
-        (record {
-            apart = m.apart;
-            chains = step_chains S m.apart part T seen.b a seen.r l2 z last e he chains seen.right;
-            distinct = push_distinct T e a z he (step_unjoined S m.apart part T seen.b a seen.r l2 z last chains seen.right) m.distinct;
-            count = step_count T e seen.b a seen.r l2 k count
-        })
+    (record {
+      apart = m.apart;
+      chains = step_chains S m.apart part T seen.b a seen.r l2 z last e he chains seen.right;
+      distinct = push_distinct T e a z he (step_unjoined S m.apart part T seen.b a seen.r l2 z last chains seen.right) m.distinct;
+      count = step_count T e seen.b a seen.r l2 k count;
+    })
 
 pub shorter : (o : ℕ → ℕ → ℕ → ℤ) (l : List ℕ) (z a : ℕ) → IsSeen o l z a → length (shortened l) < length l
 shorter o l z a h = subst (λ xs. length (shortened xs) < length xs) (sym h.is) (omega arith)

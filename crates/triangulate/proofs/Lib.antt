@@ -3,6 +3,7 @@ pub mod Field
 pub mod Turns
 pub mod Sides
 pub mod State
+pub mod Wedge
 pub mod Step
 pub mod Moves
 pub mod Final
@@ -16,3 +17,4 @@ pub mod Count
 pub mod Ordered
 pub mod Border
 pub mod Done
+pub mod Started

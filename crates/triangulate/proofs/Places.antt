@@ -1,13 +1,12 @@
 -- The points of the plane in the order of the sweep.
-use Rattle.std.proofs.Common.{◌≡◌, ◌≢◌, ℕ, ℤ, pos, neg_ℤ, ◌<◌, ◌⊎◌, inl, inr, sym, ◌∙◌, ap, ap₂, refl, subst, subst₂, List, [], ◌∷◌, length, arith}
-use Rattle.std.specs.Prelude.{◌<ℤ◌, ◌≤ℤ◌}
+use Rattle.std.proofs.Common.{◌≡◌, ℕ, ℤ, ◌<◌, ◌⊎◌, inl, inr, sym, ap₂, refl, List, length, arith}
 use Rattle.std.proofs.lemmas.Int.{ints}
 use Rattle.std.proofs.lemmas.Bool.{cases_order}
 use Rattle.plane.specs.declared.coordinates.Point.{Point}
 use Rattle.plane.specs.Geometry.{point, orientation}
 use Rattle.plane.specs.Accepted.{AreApart}
 use Rattle.partition_defs.specs.Sweep.{IsSweptBefore}
-use Rattle.plane_laws.specs.Order.{IsBefore, AreInOrder}
+use Rattle.plane_laws.specs.Order.{IsBefore}
 use Rattle.plane_laws.proofs.Orientations.{area_cycle, area_swap, in_order}
 use Rattle.plane_laws.proofs.Between.{by_order}
 use Rattle.triangulate.proofs.Field.{Setting, Laws, AreTurned, turned_laws}
@@ -37,18 +36,18 @@ places S apart i j hi hj =
 -- the points in the order of the sweep
 abbrev pub sweep_setting : (S : List Point) → AreApart S → Setting
 sweep_setting S apart = record {
-    n = length S;
-    B = IsSweptBefore S;
-    trans = λ i j k g h. before_trans (point S i) (point S j) (point S k) g h;
-    irrefl = λ i h. before_irrefl (point S i) h;
-    place = places S apart
+  n = length S;
+  B = IsSweptBefore S;
+  trans = λ i j k g h. before_trans (point S i) (point S j) (point S k) g h;
+  irrefl = λ i h. before_irrefl (point S i) h;
+  place = places S apart;
 }
 
 pub plane_laws : (S : List Point) (apart : AreApart S) → Laws (sweep_setting S apart) (orientation S)
 plane_laws S apart = record {
-    cycle = λ i j k. area_cycle (point S i) (point S j) (point S k);
-    swap = λ i j k. area_swap (point S i) (point S j) (point S k);
-    order = λ i j k l p q r. in_order (point S i) (point S j) (point S k) (point S l) p q r
+  cycle = λ i j k. area_cycle (point S i) (point S j) (point S k);
+  swap = λ i j k. area_swap (point S i) (point S j) (point S k);
+  order = λ i j k l p q r. in_order (point S i) (point S j) (point S k) (point S l) p q r;
 }
 
 pub opposite_laws : (S : List Point) (apart : AreApart S) → Laws (sweep_setting S apart) (opposite S)

@@ -1,5 +1,5 @@
 -- What the signs of the orientations of four points in order say of one another.
-use Rattle.std.proofs.Common.{◌≡◌, ℤ, pos, ◌+ℤ◌, ◌-ℤ◌, neg_ℤ, arith, ◌⊎◌}
+use Rattle.std.proofs.Common.{ℤ, pos, arith}
 use Rattle.std.specs.Prelude.{◌<ℤ◌, ◌≤ℤ◌}
 use Rattle.std.proofs.lemmas.Int.{ints, by_lt_z}
 use Rattle.plane_laws.specs.Order.{AreInOrder}

@@ -1,25 +1,25 @@
 -- The pairs of the state with all points are a triangulation of sweep pairs.
-use Rattle.std.proofs.Common.{◌≡◌, ◌≢◌, ℕ, ℤ, pos, neg_ℤ, ◌<◌, ◌+◌, ◌*◌, ◌⊎◌, inl, inr, sym, ◌∙◌, ap, ap₂, refl, subst, subst₂, List, [], ◌∷◌, length, arith}
-use Rattle.std.specs.Prelude.{◌<ℤ◌, ◌≤ℤ◌, ◌+ℤ◌, ◌-ℤ◌}
+use Rattle.std.proofs.Common.{◌≡◌, ◌≢◌, ℕ, ℤ, pos, neg_ℤ, ◌<◌, ◌⊎◌, inl, inr, ap₂, refl, subst, List, length, arith}
+use Rattle.std.specs.Prelude.{◌<ℤ◌, ◌+ℤ◌, ◌-ℤ◌}
 use Rattle.std.proofs.lemmas.Int.{ints}
 use Rattle.std.proofs.Math.IntN.{*ℤ_comm}
 use Rattle.std.specs.List.{Contains}
 use Rattle.plane.specs.declared.coordinates.Point.{Point}
 use Rattle.plane.specs.declared.segment.Pair.{Pair}
-use Rattle.plane.specs.Geometry.{point, orientation, scalar, IsBetween, IsClear, HasAllLeft, IsBorderPair, AreCrossing}
-use Rattle.plane.specs.Accepted.{AreApart, AreAccepted}
-use Rattle.partition_defs.specs.Partition.{HasEnds, Joins, AreWithin, AreClear, ArePlane, HasBorder}
-use Rattle.partition_defs.specs.Triangulation.{IsTriangulation, IsApex, HasLeft}
+use Rattle.plane.specs.Geometry.{point, orientation, scalar, IsBetween, IsClear, IsBorderPair, AreCrossing}
+use Rattle.plane.specs.Accepted.{AreApart}
+use Rattle.partition_defs.specs.Partition.{Joins}
+use Rattle.partition_defs.specs.Triangulation.{IsTriangulation, IsApex}
 use Rattle.partition_defs.specs.Sweep.{IsSweptBefore, IsSweptBeforeLater, IsSweepPair, AreSweepPairs}
 use Rattle.plane_laws.proofs.Between.{between_is_amid, amid_is_between}
-use Rattle.triangulate.proofs.Field.{Setting, Laws, AreTurned, by_place}
+use Rattle.triangulate.proofs.Field.{Setting, Laws, by_place}
 use Rattle.triangulate.proofs.Turns.{opposite_turned as opposite_signs}
-
 use Rattle.triangulate.proofs.Final.{All, apex_of, border_of, linked, met_of, plane_of}
 use Rattle.triangulate.proofs.Places.{sweep_setting, plane_laws, opposite_laws, opposite_turned}
 use Rattle.triangulate.specs.Sides.{Clear}
 use Rattle.triangulate.specs.State.{Links, Sweeps, Apex, Pairs, Whole}
 use Rattle.triangulate.specs.Swept.{opposite}
+use Rattle.triangulate.specs.SweepSet.{IsSweepSet}
 
 -- the state of the sweep over the points S with all of them in it
 abbrev pub Swept : (S : List Point) → AreApart S → List Pair → (r r2 : List ℕ) → (z : ℕ) → Type 0
@@ -37,9 +37,10 @@ scalar_swap p q r = ap₂ (λ x y. x +ℤ y) (*ℤ_comm (q.x -ℤ p.x) (r.x -ℤ
 
 pub between_swap : (S : List Point) (apart : AreApart S) (k i j : ℕ) → IsBetween S k i j → IsBetween S k j i
 between_swap S apart k i j h =
-    let L : Laws (sweep_setting S apart) (orientation S) = plane_laws S apart in
-    (zero_round (orientation S i k j) (orientation S k j i) (orientation S j k i) (L.cycle i k j) (L.swap k j i) h.0,
-     subst (λ x. x <ℤ pos 0) (scalar_swap (point S k) (point S i) (point S j)) h.1)
+    let L : Laws (sweep_setting S apart) (orientation S) = plane_laws S apart in (
+      zero_round (orientation S i k j) (orientation S k j i) (orientation S j k i) (L.cycle i k j) (L.swap k j i) h.0,
+      subst (λ x. x <ℤ pos 0) (scalar_swap (point S k) (point S i) (point S j)) h.1,
+    )
 
 pub clear_from : (S : List Point) (apart : AreApart S) (i j : ℕ) → IsSweptBefore S i j → Clear (length S) (IsSweptBefore S) (orientation S) i j → IsClear S i j
 clear_from S apart i j hij clear k kn h =
@@ -53,9 +54,10 @@ clear_swap S apart i j clear k kn h = clear k kn (between_swap S apart k j i h)
 
 cross_swap : (S : List Point) (apart : AreApart S) (a b c d : ℕ) → AreCrossing S a b c d → AreCrossing S b a c d
 cross_swap S apart a b c d h =
-    let L : Laws (sweep_setting S apart) (orientation S) = plane_laws S apart in
-    (opposite_signs (orientation S a b c) (orientation S a b d) (orientation S b a c) (orientation S b a d) (L.swap a b c) (L.swap a b d) h.0,
-     elim h.1 [ inl g ↦ inr (g.1, g.0) | inr g ↦ inl (g.1, g.0) ])
+    let L : Laws (sweep_setting S apart) (orientation S) = plane_laws S apart in (
+      opposite_signs (orientation S a b c) (orientation S a b d) (orientation S b a c) (orientation S b a d) (L.swap a b c) (L.swap a b d) h.0,
+      elim h.1 [ inl g ↦ inr (g.1, g.0) | inr g ↦ inl (g.1, g.0) ],
+    )
 
 later : (S : List Point) (apart : AreApart S) (i j k : ℕ) → IsSweptBefore S i j → IsSweptBeforeLater S k i j → IsSweptBefore S k j
 later S apart i j k hij (inl h) = (sweep_setting S apart).trans k i j h hij
@@ -63,23 +65,25 @@ later S apart i j k hij (inr h) = h
 
 sweep_pair_ordered : (S : List Point) (apart : AreApart S) (i j : ℕ) → IsSweptBefore S i j → Sweeps (length S) (IsSweptBefore S) (orientation S) i j → IsSweepPair S i j
 sweep_pair_ordered S apart i j hij s =
-    let E : Setting = sweep_setting S apart in
-    (clear_from S apart i j hij s.clear,
-     λ k l kn ln hk hl. s.alone k l kn ln (later S apart i j k hij hk) (later S apart i j l hij hl))
+    let E : Setting = sweep_setting S apart in (
+      clear_from S apart i j hij s.clear,
+      λ k l kn ln hk hl. s.alone k l kn ln (later S apart i j k hij hk) (later S apart i j l hij hl),
+    )
 
 sweep_pair_swap : (S : List Point) (apart : AreApart S) (i j : ℕ) → IsSweepPair S i j → IsSweepPair S j i
-sweep_pair_swap S apart i j h =
-    (clear_swap S apart i j h.0,
-     λ k l kn ln hk hl c. h.1 k l kn ln (elim hk [ inl x ↦ inr x | inr x ↦ inl x ]) (elim hl [ inl x ↦ inr x | inr x ↦ inl x ]) (cross_swap S apart j i k l c))
+sweep_pair_swap S apart i j h = (
+  clear_swap S apart i j h.0,
+  λ k l kn ln hk hl c. h.1 k l kn ln (elim hk [ inl x ↦ inr x | inr x ↦ inl x ]) (elim hl [ inl x ↦ inr x | inr x ↦ inl x ]) (cross_swap S apart j i k l c),
+)
 
 pub sweep_pair_of : (S : List Point) (apart : AreApart S) (T : List Pair) (r r2 : List ℕ) (z : ℕ) → Swept S apart T r r2 z → (i j : ℕ) → Joins T i j → IsSweepPair S i j
 sweep_pair_of S apart T r r2 z m i j k =
     let E : Setting = sweep_setting S apart in
     let M : Pairs E.n E.B (orientation S) (Joins T) z = m.pairs in
     by_place E i j (M.in_first i j k) (M.in_first j i (M.back i j k))
-        (λ h. sweep_pair_ordered S apart i j h (M.sweeps i j k h))
-        (λ e. absurd (M.differ i j k e))
-        (λ h. sweep_pair_swap S apart j i (sweep_pair_ordered S apart j i h (M.sweeps j i (M.back i j k) h)))
+    (λ h. sweep_pair_ordered S apart i j h (M.sweeps i j k h))
+    (λ e. absurd (M.differ i j k e))
+    (λ h. sweep_pair_swap S apart j i (sweep_pair_ordered S apart j i h (M.sweeps j i (M.back i j k) h)))
 
 pub are_sweep_pairs : (S : List Point) (apart : AreApart S) (T : List Pair) (r r2 : List ℕ) (z : ℕ) → Swept S apart T r r2 z → AreSweepPairs S T
 are_sweep_pairs S apart T r r2 z m e h = sweep_pair_of S apart T r r2 z m e.lo e.hi (joins_own T e h)
@@ -88,7 +92,7 @@ border_ordered : (S : List Point) (apart : AreApart S) (T : List Pair) (r r2 : L
     → (i j : ℕ) → i < length S → j < length S → IsSweptBefore S i j → IsBorderPair S i j → Links z r i j ⊎ Links z r2 i j
 border_ordered S apart T r r2 z m all i j iN jn hij h =
     border_of (sweep_setting S apart) (orientation S) (opposite S) (plane_laws S apart) (opposite_laws S apart) (opposite_turned S) (Joins T) r r2 z m all
-        i j iN jn hij (clear_to S apart i j h.0) h.1
+    i j iN jn hij (clear_to S apart i j h.0) h.1
 
 pub border_swap : (S : List Point) (apart : AreApart S) (i j : ℕ) → IsBorderPair S i j → IsBorderPair S j i
 border_swap S apart i j h = (clear_swap S apart i j h.0, elim h.1 [ inl g ↦ inr g | inr g ↦ inl g ])
@@ -98,9 +102,9 @@ pub border_links : (S : List Point) (apart : AreApart S) (T : List Pair) (r r2 :
     → (i j : ℕ) → i < length S → j < length S → i ≢ j → IsBorderPair S i j → (Links z r i j ⊎ Links z r2 i j) ⊎ (Links z r j i ⊎ Links z r2 j i)
 border_links S apart T r r2 z m all i j iN jn hne h =
     by_place (sweep_setting S apart) i j iN jn
-        (λ p. inl (border_ordered S apart T r r2 z m all i j iN jn p h))
-        (λ e. absurd (hne e))
-        (λ p. inr (border_ordered S apart T r r2 z m all j i jn iN p (border_swap S apart i j h)))
+    (λ p. inl (border_ordered S apart T r r2 z m all i j iN jn p h))
+    (λ e. absurd (hne e))
+    (λ p. inr (border_ordered S apart T r r2 z m all j i jn iN p (border_swap S apart i j h)))
 
 less_differ : (i j : ℕ) → i < j → i ≢ j
 less_differ i j h e = omega arith
@@ -119,13 +123,32 @@ is_triangulation S apart T r r2 z u m all un hu =
     let E : Setting = sweep_setting S apart in
     let M : Pairs E.n E.B (orientation S) (Joins T) z = m.pairs in
     record {
-        within = λ e h. M.in_first e.hi e.lo (M.back e.lo e.hi (joins_own T e h));
-        clear = λ e h. (sweep_pair_of S apart T r r2 z m e.lo e.hi (joins_own T e h)).0;
-        plane = λ e f he hf. plane_of E (orientation S) (plane_laws S apart) (Joins T) z M e.lo e.hi f.lo f.hi (joins_own T e he) (joins_own T f hf);
-        border = λ i j hij jn h. elim (border_links S apart T r r2 z m all i j (omega arith) jn (less_differ i j hij) h) [
-            inl k ↦ linked E (orientation S) (opposite S) (Joins T) r r2 z m i j k
-          | inr k ↦ M.back j i (linked E (orientation S) (opposite S) (Joins T) r r2 z m j i k) ];
-        met = λ p pn. met_in S apart T r r2 z m p (met_of E (orientation S) (opposite S) (Joins T) r r2 z m all u un hu p pn);
-        apex = λ p q j h. apex_in S apart T p q (apex_of E (orientation S) (opposite S) (plane_laws S apart) (opposite_turned S) (Joins T) r r2 z m all p q h.0 j h.1 h.2)
+      within = λ e h. M.in_first e.hi e.lo (M.back e.lo e.hi (joins_own T e h));
+      clear = λ e h. (sweep_pair_of S apart T r r2 z m e.lo e.hi (joins_own T e h)).0;
+      plane = λ e f he hf. plane_of E (orientation S) (plane_laws S apart) (Joins T) z M e.lo e.hi f.lo f.hi (joins_own T e he) (joins_own T f hf);
+      border = λ i j hij jn h. elim (border_links S apart T r r2 z m all i j (omega arith) jn (less_differ i j hij) h) [
+        | inl k ↦ linked E (orientation S) (opposite S) (Joins T) r r2 z m i j k
+        | inr k ↦ M.back j i (linked E (orientation S) (opposite S) (Joins T) r r2 z m j i k)
+      ];
+      met = λ p pn. met_in S apart T r r2 z m p (met_of E (orientation S) (opposite S) (Joins T) r r2 z m all u un hu p pn);
+      apex = λ p q j h. apex_in S apart T p q (apex_of E (orientation S) (opposite S) (plane_laws S apart) (opposite_turned S) (Joins T) r r2 z m all p q h.0 j h.1 h.2);
     }
 
+-- each sweep pair is among the pairs
+sweeps_of : (S : List Point) (apart : AreApart S) (i j : ℕ) → IsSweepPair S i j → Sweeps (length S) (IsSweptBefore S) (orientation S) i j
+sweeps_of S apart i j h = record { clear = clear_to S apart i j h.0; alone = λ k l kn ln hk hl. h.1 k l kn ln (inr hk) (inr hl) }
+
+pub sweep_pair_joined : (S : List Point) (apart : AreApart S) (T : List Pair) (r r2 : List ℕ) (z : ℕ) → Swept S apart T r r2 z → All (sweep_setting S apart) z
+    → (i j : ℕ) → i < length S → j < length S → i ≢ j → IsSweepPair S i j → Joins T i j
+sweep_pair_joined S apart T r r2 z m all i j iN jn hne h =
+    let M : Pairs (length S) (IsSweptBefore S) (orientation S) (Joins T) z = m.pairs in
+    by_place (sweep_setting S apart) i j iN jn
+    (λ p. m.whole i j iN jn p (all j jn) (sweeps_of S apart i j h))
+    (λ e. absurd (hne e))
+    (λ p. M.back j i (m.whole j i jn iN p (all i iN) (sweeps_of S apart j i (sweep_pair_swap S apart i j h))))
+
+pub is_sweep_set : (S : List Point) (apart : AreApart S) (T : List Pair) (r r2 : List ℕ) (z : ℕ) → Swept S apart T r r2 z → All (sweep_setting S apart) z → IsSweepSet S T
+is_sweep_set S apart T r r2 z m all i j hij jn = (
+  (λ k. sweep_pair_of S apart T r r2 z m i j k),
+  (λ h. sweep_pair_joined S apart T r r2 z m all i j (omega arith) jn (less_differ i j hij) h),
+)

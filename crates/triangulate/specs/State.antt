@@ -78,6 +78,8 @@ pub record Joining (n : ℕ) (B : ℕ → ℕ → Type 0) (o w : ℕ → ℕ →
   pub pairs : Pairs n B o J z
   pub met : Met n B J z
   pub apex : (p q : ℕ) → J p q → Apex n B o J p q ⊎ (Links z (t ∷ r) q p ⊎ Links z (t2 ∷ r2) p q)
+  pub older : (i j : ℕ) → i < n → j < n → B i j → B j z → Sweeps n B o i j → J i j
+  pub sees : (i : ℕ) → i < n → B i z → Sweeps n B o i z → J i z ⊎ ((o t z i <ℤ pos 0) ⊎ (w t2 z i <ℤ pos 0))
   pub fresh : (s : ℕ) → J s z → From B o t s z last ⊎ From B w t2 s z last
 
 -- between two points: z is the last point, and the end of both chains
@@ -88,6 +90,7 @@ pub record Whole (n : ℕ) (B : ℕ → ℕ → Type 0) (o w : ℕ → ℕ → �
   pub pairs : Pairs n B o J z
   pub met : Met n B J z
   pub apex : (p q : ℕ) → J p q → Apex n B o J p q ⊎ (Links z r q p ⊎ Links z r2 p q)
+  pub whole : (i j : ℕ) → i < n → j < n → B i j → UpTo B j z → Sweeps n B o i j → J i j
 
 -- z isn't right of the chain's last side
 abbrev pub Settled : (o : ℕ → ℕ → ℕ → ℤ) (t : ℕ) (r : List ℕ) (z : ℕ) → Type 0

@@ -1,5 +1,5 @@
 -- The sweep's state over a list of points: the pairs so far, and the lower and the upper chain, the last point first.
-use Rattle.std.specs.Prelude.{◌≡◌, ◌+◌, ◌*◌, ◌<◌, ℕ, ℤ, pos, neg_ℤ, ◌≤ℤ◌, ◌<ℤ◌, List, [], ◌∷◌, length}
+use Rattle.std.specs.Prelude.{◌≡◌, ◌+◌, ◌*◌, ◌<◌, ℕ, ℤ, pos, neg_ℤ, ◌<ℤ◌, List, [], ◌∷◌, length}
 use Rattle.plane.specs.declared.coordinates.Point.{Point}
 use Rattle.plane.specs.declared.segment.Pair.{Pair}
 use Rattle.plane.specs.Geometry.{orientation}
@@ -11,6 +11,7 @@ use Rattle.triangulate.specs.declared.sweep.Part.{Part}
 use Rattle.triangulate.specs.declared.sweep.Part.TheVariants.{Lower, Upper}
 use Rattle.triangulate.specs.Sides.{UpTo}
 use Rattle.triangulate.specs.State.{Whole, Joining, Settled}
+use Rattle.triangulate.specs.SweepSet.{IsSweepSet}
 
 -- the orientation turned over
 abbrev pub opposite : List Point → (p q r : ℕ) → ℤ
@@ -82,3 +83,4 @@ pub record IsSweepTriangulation (S : List Point) (T : List Pair) : Type 0 where
   pub triangulation : IsTriangulation S T
   pub count : HasTriangulationCount S T
   pub sweep : AreSweepPairs S T
+  pub set : IsSweepSet S T

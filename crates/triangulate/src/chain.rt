@@ -24,7 +24,9 @@ impl Chain {
     pub fn new(alloc: Global) -> Chain
         ensures { result ≡ [] }
     {
-        Chain { points: Vec::new(alloc) }
+        Chain {
+            points: Vec::new(alloc),
+        }
     }
 
     // Puts a point at the end.

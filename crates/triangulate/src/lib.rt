@@ -4,6 +4,11 @@
 
 mod chain;
 mod order;
+mod starting;
 mod sweep;
 
+pub use starting::{start, start_pairs};
 pub use sweep::sweep_pairs;
+
+#[cfg(test)]
+mod tests;

@@ -5,6 +5,7 @@ ghost use Rattle.plane.specs.Accepted.{AreAccepted};
 ghost use Rattle.partition_defs.specs.Triangulation.{AreDistinct, IsTriangulation, HasTriangulationCount};
 ghost use Rattle.partition_defs.specs.Sweep.{AreSweepPairs};
 ghost use Rattle.triangulate.specs.Order.{IsSweepOrder};
+ghost use Rattle.triangulate.specs.SweepSet.{IsSweepSet};
 ghost use Rattle.triangulate.specs.Swept.{turn, other_turn, IsJoining, IsSettled, IsSeen, IsSwept, IsNext, IsSweptWhole};
 
 use crate::chain::Chain;
@@ -47,7 +48,13 @@ fn next_seen(points: &Points, part: Part, chain: &Chain, z: u32) -> Option<u32>
 }
 
 // Joins z to the points of one part of the border that it sees, other than the last one.
-fn join_seen(points: &Points, part: Part, chain: &mut Chain, pairs: &mut Vec<Pair>, z: u32) -> Result<(), AllocError>
+fn join_seen(
+    points: &Points,
+    part: Part,
+    chain: &mut Chain,
+    pairs: &mut Vec<Pair>,
+    z: u32,
+) -> Result<(), AllocError>
     requires joining { (l2 : List ℕ) × (last : ℕ) × (k : ℕ) × IsJoining points.now (turn part points.now) (other_turn part points.now) pairs.old.items chain.old l2 z last k }
     ensures joining { IfOk result (λ _. (l2 : List ℕ) (last k : ℕ) → IsJoining points.now (turn part points.now) (other_turn part points.now) pairs.old.items chain.old l2 z last k → IsJoining points.now (turn part points.now) (other_turn part points.now) pairs.new.items chain.new l2 z last k) }
     ensures settled { IfOk result (λ _. IsSettled (turn part points.now) chain.new z) }
@@ -121,6 +128,7 @@ pub fn sweep_pairs(alloc: Global, points: &Points) -> Result<Vec<Pair>, AllocErr
     ensures triangulation { IfOk result (λ v. IsTriangulation points.now v.items) }
     ensures count { IfOk result (λ v. HasTriangulationCount points.now v.items) }
     ensures sweep { IfOk result (λ v. AreSweepPairs points.now v.items) }
+    ensures set { IfOk result (λ v. IsSweepSet points.now v.items) }
 {
     let order = sweep_order(alloc, points)?;
     let sweep = sweep_through(alloc, points, &order)?;

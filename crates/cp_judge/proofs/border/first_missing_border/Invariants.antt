@@ -1,6 +1,5 @@
-use Rattle.std.proofs.Common.{◌<◌, ℕ}
-use Rattle.partition_defs.specs.Partition.{HasBorderFrom}
+use Rattle.cp_judge.specs.Violation.{IsMissingBelow}
 use Rattle.cp_judge.proofs.border.first_missing_border.Given as goal
 
-abbrev pub invariant-loop-i : goal.invariant-loop-i
-invariant-loop-i l = (i : ℕ) → i < l.i → HasBorderFrom l.points l.list i
+abbrev pub invariant-loop-v : goal.invariant-loop-v
+invariant-loop-v l = IsMissingBelow l.points l.list l.v l.least

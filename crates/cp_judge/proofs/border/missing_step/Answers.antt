@@ -1,14 +1,15 @@
-use Rattle.std.proofs.Common.{◌≡◌, ◌≤◌, ℕ, sym, ◌∙◌, subst, arith, Some}
-use Rattle.partition_defs.specs.Partition.{Joins}
-use Rattle.cp_judge.proofs.border.missing_step.Goals.{else-i-w-via-then-i-w+else-not-joins, else-i-w-via-else-i-w}
+use Rattle.cp_judge.proofs.Items.{refused}
+use Rattle.cp_judge.proofs.Steps.{step_missing, step_joined}
 use Rattle.cp_judge.proofs.border.missing_step.Goals as goal
 
-pub returns : goal.returns
-returns c = λ w e l.
-    let both : Some c.in_ok-w.w ≡ Some w = sym c.in_ok-w.was ∙ e in
-    let same : c.in_ok-w.w ≡ w = cc in
-    let P : ℕ → Type 0 = λ y. Joins c.args.list.now c.args.i y in
-    elim c.else-i-w.branch [
-      | else-i-w-via-then-i-w+else-not-joins x ↦ subst P same (x.joins.ensures.0 x.if-not-joins.false)
-      | else-i-w-via-else-i-w x ↦ absurd (let far : c.in_ok-w.w ≤ c.args.i = x.if-i-w.false in omega arith)
-    ]
+pub returns-in-None : goal.returns-in-None
+returns-in-None c = λ w step. absurd (c.in-None.ensures w step)
+
+pub returns-then-joins : goal.returns-then-joins
+returns-then-joins c =
+    step_joined c.args.points.now c.args.list.now c.args.v c.in-Some.w c.len-count.ensures.accepted c.requires c.in-Some.ensures (c.joins.ensures.0 c.if-joins.true)
+
+pub returns-else-joins : goal.returns-else-joins
+returns-else-joins c =
+    step_missing c.args.points.now c.args.list.now c.args.v c.in-Some.w c.of.result c.len-count.ensures.accepted c.requires c.in-Some.ensures
+    (refused _ _ c.if-joins.false c.joins.ensures.1) c.of.ensures.lo c.of.ensures.hi

@@ -1,12 +1,11 @@
-use Rattle.std.proofs.Common.{◌≡◌, ◌<◌, map, length, sym, ap, ◌∙◌, arith, subst, set, Bool, true, false, List}
+use Rattle.std.proofs.Common.{◌≡◌, map, length, ap, ◌∙◌, arith, subst, Bool, true, false, List}
 use Rattle.std.proofs.lemmas.List.{length-map, length-set}
-use Rattle.serde_json.specs.Data.{null}
 use Rattle.serde_json.specs.View.{view}
 use Rattle.text_defs.specs.Instances.{point_of}
 use Rattle.instance_io.specs.Refusal.{coordinates}
 use Rattle.instance_io.specs.Told.{is_seen}
 use Rattle.instance_io.proofs.Places.{at_place, bad_if_seen, bad_index_found, no_bad_index}
-use Rattle.instance_io.proofs.Placed.{Stepped, step, all_placed, placed_end}
+use Rattle.instance_io.proofs.Placed.{step, placed_end}
 use Rattle.instance_io.proofs.points.points_by_index.Goals as goal
 
 pub returns-in_default-new_index : goal.returns-in_default-new_index

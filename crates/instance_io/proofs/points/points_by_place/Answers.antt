@@ -1,5 +1,4 @@
-use Rattle.std.proofs.Common.{not, ap, ◌∙◌, false, refl, arith, rules}
-use Rattle.serde_json.specs.View.{view}
+use Rattle.std.proofs.Common.{not, ap, ◌∙◌, arith}
 use Rattle.text_defs.specs.Instances.{is_point}
 use Rattle.instance_io.specs.Refusal.{coordinates}
 use Rattle.std.proofs.Common.{map}

@@ -1,9 +1,9 @@
-use Rattle.std.proofs.Common.{◌++◌, ◌∙◌, ap, sym, arith, codes, nat_lt, false, map, []}
-use Rattle.serde_json.specs.Written.{comma_if, compact_text, items_text}
+use Rattle.std.proofs.Common.{◌++◌, ◌∙◌, ap, arith, codes, nat_lt, []}
+use Rattle.serde_json.specs.Written.{comma_if, compact_text}
 use Rattle.json.specs.Print.{quoted}
 use Rattle.text_defs.specs.Texts.{point_data}
 use Rattle.instance_io.specs.Refusal.{coordinates}
-use Rattle.instance_io.proofs.InstanceText.{two, rest, next_point, last_point}
+use Rattle.instance_io.proofs.InstanceText.{two, next_point, last_point}
 use Rattle.instance_io.proofs.writing.write_instance.Goals as goal
 
 pub loop-i-preserved : goal.loop-i-preserved

@@ -1,4 +1,4 @@
-use Rattle.std.proofs.Common.{◌++◌, ◌∙◌, ap, codes, arith, ◌∷◌, []}
+use Rattle.std.proofs.Common.{◌++◌, ◌∙◌, ap, codes, arith}
 use Rattle.json.specs.Print.{quoted}
 use Rattle.instance_io.proofs.InstanceText.{two}
 use Rattle.solution_io.proofs.SolutionText.{next_edge, last_edge}

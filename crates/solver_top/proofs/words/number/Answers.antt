@@ -11,8 +11,9 @@ pub returns-then-n-least : goal.returns-then-n-least
 returns-then-n-least c = λ n low h e.
     let same = reads_as c.args.word.now n c.in-Ok.n c.parse.result (omega arith) e c.parse.ensures.value.0 c.in-Ok.is in
     elim c.then-n-least.branch [
-      then-n-least-via-then-n-least w ↦ omega (arith, w.if-n-least.true, same)
-    | then-n-least-via-else-n-least+then-n-most w ↦ omega (arith, w.if-n-most.true, same) ]
+      | then-n-least-via-then-n-least w ↦ omega (arith, w.if-n-least.true, same)
+      | then-n-least-via-else-n-least+then-n-most w ↦ omega (arith, w.if-n-most.true, same)
+    ]
 
 pub returns-else-is_decimal : goal.returns-else-is_decimal
 returns-else-is_decimal c = λ n low h e.

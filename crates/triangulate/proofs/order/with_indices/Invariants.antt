@@ -1,4 +1,4 @@
-use Rattle.std.proofs.Common.{◌≡◌, length, vec_len, ℕ, ◌<◌, slice_index_or, ◌≤◌}
+use Rattle.std.proofs.Common.{◌≡◌, vec_len, ℕ, ◌<◌, slice_index_or}
 use Rattle.plane.specs.declared.coordinates.Point.{Point}
 use Rattle.plane.specs.Geometry.{point}
 use Rattle.triangulate.proofs.order.with_indices.Given as goal

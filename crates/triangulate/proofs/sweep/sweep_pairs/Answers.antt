@@ -1,5 +1,3 @@
-use Rattle.std.proofs.Common.{◌≡◌, List, length}
-use Rattle.triangulate.specs.Swept.{IsSweepTriangulation}
 use Rattle.triangulate.proofs.Done.{done}
 use Rattle.triangulate.proofs.sweep.sweep_pairs.Goals as goal
 
@@ -18,3 +16,7 @@ returns-clause-count c =
 pub returns-clause-sweep : goal.returns-clause-sweep
 returns-clause-sweep c =
     (done c.args.points.now c.in_ok-sweep.sweep.pairs.items c.in_ok-sweep.sweep.lower c.in_ok-sweep.sweep.upper c.in_ok-sweep.ensures).sweep
+
+pub returns-clause-set : goal.returns-clause-set
+returns-clause-set c =
+    (done c.args.points.now c.in_ok-sweep.sweep.pairs.items c.in_ok-sweep.sweep.lower c.in_ok-sweep.sweep.upper c.in_ok-sweep.ensures).set

@@ -1,4 +1,4 @@
-use Rattle.std.proofs.Common.{◌-◌, ℕ, List, get_or}
+use Rattle.std.proofs.Common.{◌-◌, get_or}
 use Rattle.triangulate.specs.Swept.{IsSwept}
 use Rattle.triangulate.proofs.sweep.sweep_through.Given as goal
 

@@ -1,0 +1,215 @@
+use crate::{Status, run};
+use mcp_outside::{MemorySink, MemorySource, OpenGate};
+use std::alloc::Global;
+use std::test::Fail;
+use std::thread::Threads;
+
+const SQUARE: &str =
+    r#"{"instance":{"name":"sq","points":[{"x":0,"y":0},{"x":0,"y":4},{"x":4,"y":0},{"x":4,"y":4}]},"solution":{"edges":["#;
+
+const CENTRED: &str =
+    r#"{"instance":{"name":"sqc","points":[{"x":0,"y":0},{"x":0,"y":4},{"x":4,"y":0},{"x":4,"y":4},{"x":2,"y":2}]},"solution":{"edges":["#;
+
+fn words_of(alloc: Global, line: &str) -> Result<Vec<String>, Fail> {
+    let mut words = Vec::new(alloc);
+    for word in line.split_whitespace() {
+        words.push(String::from_str(alloc, word)?)?;
+    }
+    Ok(words)
+}
+
+// A bundle with these edges, each as two digits.
+fn bundle(alloc: Global, front: &str, edges: &str) -> Result<Vec<u8>, Fail> {
+    let mut text = String::from_str(alloc, front)?;
+    let mut later = false;
+    for edge in edges.split_whitespace() {
+        if later {
+            text.push_str(",")?;
+        }
+        later = true;
+        let (i, j) = (
+            edge.chars().next().unwrap_or('0'),
+            edge.chars().last().unwrap_or('0'),
+        );
+        text.push_str("{\"i\":")?;
+        text.push(i)?;
+        text.push_str(",\"j\":")?;
+        text.push(j)?;
+        text.push_str("}")?;
+    }
+    text.push_str("]}}")?;
+    Ok(text.into_bytes())
+}
+
+// What the program writes over memory, and its status.
+fn ran<R: Threads + Sync>(
+    rt: &R,
+    alloc: Global,
+    line: &str,
+    input: Vec<u8>,
+) -> Result<(Status, Vec<u8>), Fail> {
+    let words = words_of(alloc, line)?;
+    let mut source = MemorySource::make(input, 64, Vec::new(alloc));
+    let mut sink = MemorySink::make(alloc, 1_000_000, 100, Vec::new(alloc))?;
+    let status = run(
+        rt,
+        alloc,
+        words.as_slice(),
+        &mut source,
+        &mut sink,
+        &OpenGate,
+    );
+    Ok((status, Vec::from_slice(alloc, sink.written())?))
+}
+
+// The edges of a square and of a square with its centre, judged. The answers were worked out by hand.
+#[test]
+fn judges_small_bundles(rt: HostRuntime) -> Result<(), Fail> {
+    let cases = [
+        (
+            SQUARE,
+            "01 20 13 23",
+            Status::Done,
+            "convex partition 4 segments\n",
+        ),
+        (
+            SQUARE,
+            "01 02 13 23 03 12",
+            Status::No,
+            "no Crossing 0-3 1-2\n",
+        ),
+        (SQUARE, "01 02 13", Status::No, "no MissingBorder 2-3\n"),
+        (SQUARE, "01 02 13 23 10", Status::No, "no Doubled 0-1\n"),
+        (
+            SQUARE,
+            "01 02 13 24",
+            Status::Refused,
+            "refused solution BadEdge 3\n",
+        ),
+        (
+            SQUARE,
+            "01 02 33 23",
+            Status::Refused,
+            "refused solution BadEdge 2\n",
+        ),
+        (CENTRED, "01 02 13 23 04", Status::No, "no Unmet 4 0\n"),
+        (CENTRED, "01 02 13 23 03", Status::No, "no NotClear 0-3 4\n"),
+        (
+            CENTRED,
+            "01 02 13 23 14 24",
+            Status::Done,
+            "convex partition 6 segments\n",
+        ),
+    ];
+    for (front, edges, status, text) in cases {
+        let (ended, written) = ran(&rt, rt.alloc(), "judge", bundle(rt.alloc(), front, edges)?)?;
+        assert_eq!(rt; ended, status, "{edges}");
+        assert_eq!(rt; written.as_slice(), text.as_bytes(), "{edges}");
+    }
+    Ok(())
+}
+
+// Words and inputs that are refused, and what is generated.
+#[test]
+fn refuses_and_generates(rt: HostRuntime) -> Result<(), Fail> {
+    let cases = [
+        ("", "", Status::Usage, "usage 0\n"),
+        ("solv", "", Status::Usage, "usage 0\n"),
+        ("judge judge", "", Status::Usage, "usage 1\n"),
+        ("gen", "", Status::Usage, "usage 1\n"),
+        ("gen heap 5 1", "", Status::Usage, "usage 1\n"),
+        ("gen scatter 2 1", "", Status::Usage, "usage 2\n"),
+        ("gen scatter 5001 1", "", Status::Usage, "usage 2\n"),
+        ("gen scatter 03 1", "", Status::Usage, "usage 2\n"),
+        ("gen grid 3 +1", "", Status::Usage, "usage 3\n"),
+        (
+            "gen grid 3 18446744073709551616",
+            "",
+            Status::Usage,
+            "usage 3\n",
+        ),
+        ("gen grid 3", "", Status::Usage, "usage 3\n"),
+        ("gen grid 3 1 1", "", Status::Usage, "usage 4\n"),
+        ("judge", "", Status::Refused, "refused bundle NotJson\n"),
+        (
+            "judge",
+            "{}",
+            Status::Refused,
+            "refused bundle NoInstance\n",
+        ),
+        (
+            "judge",
+            "{\"instance\":7}",
+            Status::Refused,
+            "refused bundle NoSolution\n",
+        ),
+        (
+            "judge",
+            "{\"instance\":7,\"solution\":7}",
+            Status::Refused,
+            "refused instance NoName\n",
+        ),
+        (
+            "gen ring 3 5",
+            "",
+            Status::Done,
+            "{\"name\":\"ring-3-5\",\"points\":[{\"i\":0,\"x\":0,\"y\":0},{\"i\":1,\"x\":1,\"y\":1},{\"i\":2,\"x\":2,\"y\":4}]}\n",
+        ),
+    ];
+    for (line, input, status, text) in cases {
+        let (ended, written) = ran(
+            &rt,
+            rt.alloc(),
+            line,
+            Vec::from_slice(rt.alloc(), input.as_bytes())?,
+        )?;
+        assert_eq!(rt; ended, status, "{line}");
+        assert_eq!(rt; written.as_slice(), text.as_bytes(), "{line}");
+    }
+    Ok(())
+}
+
+// A source of 64 bytes a call and a sink of 100 bytes a call, with each call failing in turn.
+#[test]
+fn fails_at_each_call_in_turn(rt: HostRuntime) -> Result<(), Fail> {
+    let alloc = rt.alloc();
+    let words = words_of(alloc, "judge")?;
+    for call in 1..5u64 {
+        let input = bundle(alloc, SQUARE, "01 20 13 23")?;
+        let mut source = MemorySource::make(input, 64, [call].to_vec(alloc)?);
+        let mut sink = MemorySink::make(alloc, 1000, 100, Vec::new(alloc))?;
+        let status = run(
+            &rt,
+            alloc,
+            words.as_slice(),
+            &mut source,
+            &mut sink,
+            &OpenGate,
+        );
+        assert_eq!(rt;
+            (status, sink.written().len()),
+            (Status::ReadFault, 0),
+            "source call {call}"
+        );
+    }
+    let words = words_of(alloc, "gen ring 20 1")?;
+    for call in 1..6u64 {
+        let mut source = MemorySource::make(Vec::new(alloc), 64, Vec::new(alloc));
+        let mut sink = MemorySink::make(alloc, 1000, 100, [call].to_vec(alloc)?)?;
+        let status = run(
+            &rt,
+            alloc,
+            words.as_slice(),
+            &mut source,
+            &mut sink,
+            &OpenGate,
+        );
+        assert_eq!(rt; status, Status::WriteFault, "sink call {call}");
+        assert_eq!(rt;
+            sink.written().len() as u64,
+            100 * (call - 1),
+            "sink call {call}"
+        );
+    }
+    Ok(())
+}

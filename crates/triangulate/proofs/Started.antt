@@ -1,0 +1,40 @@
+-- The start, sorted, is still the start.
+use Rattle.std.proofs.Common.{◌≡◌, ℕ, ◌+◌, ◌*◌, ◌↔◌, List, length, Result, Ok, Err, IfOk, sym, ◌∙◌, ap, subst}
+use Rattle.std.specs.List.{Contains}
+use Rattle.plane.specs.declared.coordinates.Point.{Point}
+use Rattle.plane.specs.declared.segment.Pair.{Pair}
+use Rattle.partition_defs.specs.Partition.{Joins}
+use Rattle.subdivision.specs.Ascending.{IsAscending}
+use Rattle.subdivision.specs.State.{State, AreSame, IsSubdivision}
+use Rattle.subdivision.specs.Listing.{IsSortedFrom}
+use Rattle.subdivision.proofs.Lists.{has_of, contains_of}
+use Rattle.subdivision.proofs.Members.{joined, joins_of, triangulation_same, same_lists}
+use Rattle.subdivision.proofs.Sorting.{sorted_ascends}
+use Rattle.triangulate.specs.Start.{IsStart, IsSortedStart}
+
+joins_too : (T U : List Pair) → ((e : Pair) → Contains T e → Contains U e) → (i j : ℕ) → Joins T i j → Joins U i j
+joins_too T U more i j h =
+    let (e, has, ends) = joined T i j h in
+    joins_of U e i j (has_of U e (more e (contains_of T e has))) ends
+
+same_members : (T U : List Pair) → ((e : Pair) → Contains U e ↔ Contains T e) → AreSame T U
+same_members T U members i j = (joins_too T U (λ e. (members e).1) i j, joins_too U T (λ e. (members e).0) i j)
+
+pub sorted_start : (S : List Point) (old new : List Pair) → IsStart S old → IsSortedFrom old new → length new ≡ length old → IsSortedStart S new
+sorted_start S old new start sorted count =
+    let same = same_members old new sorted.members in
+    record {
+      ascending = sorted_ascends old new start.distinct sorted;
+      start = record {
+        distinct = sorted.distinct start.distinct;
+        triangulation = triangulation_same S old new same start.triangulation;
+        count = λ B list. ap (λ (m : ℕ). m + length B + 3) count ∙ start.count B list;
+        sweep = λ e h. start.sweep e ((sorted.members e).0 h);
+        set = λ i j h k. (λ joins. (start.set i j h k).0 ((same i j).1 joins), λ sweep. (same i j).0 ((start.set i j h k).1 sweep));
+      };
+    }
+
+-- a subdivision with the same segments as an ascending list has this list
+pub has_list : (P : List Pair → Type 0) (T : List Pair) {E : Type 0} (r : Result State E) → IsAscending T → P T → IfOk r (λ s. AreSame s.all T) → IfOk r IsSubdivision → IfOk r (λ s. P s.all)
+has_list P T (Ok s) ascends holds same own = subst P (sym (same_lists s.all T own.ascending ascends same)) holds
+has_list P T (Err e) ascends holds same own = tt

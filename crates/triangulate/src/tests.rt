@@ -1,0 +1,164 @@
+use crate::sweep_pairs;
+use plane::{Pair, Point, Points};
+use std::alloc::Global;
+use std::process::Abort;
+use std::test::Fail;
+
+fn points_of(rt: &impl Abort, alloc: Global, list: &[(i64, i64)]) -> Result<Points, Fail> {
+    let mut points = Vec::new(alloc);
+    for (x, y) in list {
+        points.push(Point { x: *x, y: *y })?;
+    }
+    assert!(rt; points.len() < 5001);
+    Ok(Points::make(points)?)
+}
+
+// Whether the sweep meets p before q.
+fn is_before(points: &Points, p: u32, q: u32) -> bool {
+    p < points.len() && q < points.len() && points.at(p) < points.at(q)
+}
+
+// Whether both ends of the second pair come before the later end of the first.
+fn comes_before(points: &Points, e: Pair, f: Pair) -> bool {
+    let (i, j) = (e.lo(), e.hi());
+    let (k, l) = (f.lo(), f.hi());
+    (is_before(points, k, i) || is_before(points, k, j))
+        && (is_before(points, l, i) || is_before(points, l, j))
+}
+
+// The definition of a sweep pair, tried on all pairs.
+fn is_sweep_pair(points: &Points, e: Pair) -> bool {
+    if e.hi() >= points.len() || !points.is_clear(e) {
+        return false;
+    }
+    for k in 0..points.len() {
+        for l in k + 1..points.len() {
+            let f = Pair::of(k, l);
+            if comes_before(points, e, f) && points.cross(e, f) {
+                return false;
+            }
+        }
+    }
+    true
+}
+
+// All sweep pairs, ascending.
+fn plain_sweep_pairs(alloc: Global, points: &Points) -> Result<Vec<Pair>, Fail> {
+    let mut pairs = Vec::new(alloc);
+    for i in 0..points.len() {
+        for j in i + 1..points.len() {
+            let e = Pair::of(i, j);
+            if is_sweep_pair(points, e) {
+                pairs.push(e)?;
+            }
+        }
+    }
+    Ok(pairs)
+}
+
+#[test]
+fn the_worked_pairs_come_out(rt: HostRuntime) -> Result<(), Fail> {
+    let cases: [(&[(i64, i64)], &[(u32, u32)]); 5] = [
+        (
+            &[(0, 0), (0, 4), (4, 0), (4, 4)],
+            &[(0, 1), (0, 2), (1, 2), (1, 3), (2, 3)],
+        ),
+        (
+            &[(0, 0), (6, 0), (0, 6), (2, 1)],
+            &[(0, 1), (0, 2), (0, 3), (1, 2), (1, 3), (2, 3)],
+        ),
+        (&[(0, 0), (5, 0), (0, 5)], &[(0, 1), (0, 2), (1, 2)]),
+        (
+            &[(0, 0), (2, 0), (4, 0), (0, 4)],
+            &[(0, 1), (0, 3), (1, 2), (1, 3), (2, 3)],
+        ),
+        (
+            &[(0, 0), (0, 4), (4, 0), (4, 4), (2, 2)],
+            &[
+                (0, 1),
+                (0, 2),
+                (0, 4),
+                (1, 3),
+                (1, 4),
+                (2, 3),
+                (2, 4),
+                (3, 4),
+            ],
+        ),
+    ];
+    for (list, want) in &cases {
+        let points = points_of(&rt, rt.alloc(), list)?;
+        let mut pairs = sweep_pairs(rt.alloc(), &points)?;
+        pairs.sort()?;
+        let mut ends = Vec::new(rt.alloc());
+        for e in &pairs {
+            ends.push((e.lo(), e.hi()))?;
+        }
+        assert_eq!(rt; ends.as_slice(), *want);
+    }
+    Ok(())
+}
+
+#[test]
+fn exactly_the_sweep_pairs_come_out(rt: HostRuntime) -> Result<(), Fail> {
+    let cases: [&[(i64, i64)]; 6] = [
+        // A grid of 4 by 4, by rows.
+        &[
+            (0, 0),
+            (1, 0),
+            (2, 0),
+            (3, 0),
+            (0, 1),
+            (1, 1),
+            (2, 1),
+            (3, 1),
+            (0, 2),
+            (1, 2),
+            (2, 2),
+            (3, 2),
+            (0, 3),
+            (1, 3),
+            (2, 3),
+            (3, 3),
+        ],
+        // All but one on a line: the odd one last, first and amid, and on a line upward.
+        &[(0, 0), (2, 1), (4, 2), (6, 3), (8, 4), (9, 9)],
+        &[(5, 0), (6, 1), (0, 7), (7, 2), (8, 3), (9, 4)],
+        &[(3, 1), (3, 5), (3, 2), (3, 9), (3, 4), (4, 4), (3, 0)],
+        // Points inside the sides of the hull.
+        &[
+            (0, 0),
+            (8, 0),
+            (0, 8),
+            (8, 8),
+            (4, 0),
+            (0, 4),
+            (8, 4),
+            (4, 8),
+            (2, 0),
+            (4, 4),
+            (3, 5),
+        ],
+        // Points on a parabola, and some inside.
+        &[
+            (-3, 9),
+            (3, 9),
+            (-2, 4),
+            (2, 4),
+            (-1, 1),
+            (1, 1),
+            (0, 0),
+            (0, 5),
+            (1, 7),
+            (-1, 6),
+        ],
+    ];
+    for list in &cases {
+        let points = points_of(&rt, rt.alloc(), list)?;
+        let mut pairs = sweep_pairs(rt.alloc(), &points)?;
+        pairs.sort()?;
+        let plain = plain_sweep_pairs(rt.alloc(), &points)?;
+        assert_eq!(rt; pairs.as_slice(), plain.as_slice());
+    }
+    Ok(())
+}

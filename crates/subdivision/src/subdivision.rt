@@ -60,6 +60,7 @@ impl Subdivision {
         requires { AreAgreed points.now stars.items }
         ensures points { result.points ≡ points.now }
         ensures stars { result.stars ≡ stars.items }
+        ensures same { (T K : List Pair) → AreOf points.now T K stars.items → AreSame result.all T × AreSame result.kept K }
         ensures subdivision { IsSubdivision result }
     {
         Subdivision {

@@ -1,0 +1,5 @@
+pub mod Lower
+pub mod Turned
+pub mod Trails
+pub mod Walking
+pub mod Cycles

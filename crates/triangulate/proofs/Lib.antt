@@ -17,3 +17,4 @@ pub mod Count
 pub mod Ordered
 pub mod Border
 pub mod Done
+pub mod Started

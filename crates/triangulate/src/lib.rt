@@ -4,8 +4,10 @@
 
 mod chain;
 mod order;
+mod starting;
 mod sweep;
 
+pub use starting::start;
 pub use sweep::sweep_pairs;
 
 #[cfg(test)]

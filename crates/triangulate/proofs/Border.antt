@@ -54,7 +54,7 @@ upper_border S apart T r r2 z m all p q k =
       inr (λ s sn. swapped_side (orientation S p q s) (orientation S q p s) (area_swap (point S p) (point S q) (point S s)) (d.left s sn (all s sn))),
     )
 
-key_of : (e : Pair) (i j : ℕ) → i < j → HasEnds e i j → ends e ≡ key i j
+pub key_of : (e : Pair) (i j : ℕ) → i < j → HasEnds e i j → ends e ≡ key i j
 unfolding key
 key_of e i j h (inl g) = ap₂ (λ (x y : ℕ). (let u : Key = (x, y) in u)) (let f : e.lo ≡ i = g.0 in omega arith) (let f : e.hi ≡ j = g.1 in omega arith)
 key_of e i j h (inr g) = (let f : e.lo ≡ j = g.0 in let f2 : e.hi ≡ i = g.1 in let o : e.lo < e.hi = e.ordered in absurd (omega arith))
@@ -63,7 +63,7 @@ key_swap : (i j : ℕ) → key i j ≡ key j i
 unfolding key
 key_swap i j = ap₂ (λ (x y : ℕ). (let u : Key = (x, y) in u)) (omega arith) (omega arith)
 
-contains_ends : (B : List Pair) (e : Pair) → Contains B e → Contains (map ends B) (ends e)
+pub contains_ends : (B : List Pair) (e : Pair) → Contains B e → Contains (map ends B) (ends e)
 contains_ends B e c =
     (c.0, subst (λ n. c.0 < n) (sym (length-map B ends)) c.1, get_or-map ends B c.0 e (ends e) c.1 ∙ ap ends c.2)
 

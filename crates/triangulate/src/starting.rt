@@ -3,6 +3,7 @@ ghost use Rattle.std.specs.Prelude.{◌≡◌, IfOk, OnOk};
 ghost use Rattle.partition_defs.specs.Triangulation.{AreDistinct, IsTriangulation, HasTriangulationCount};
 ghost use Rattle.partition_defs.specs.Sweep.{AreSweepPairs};
 ghost use Rattle.subdivision.specs.Ascending.{IsAscending};
+ghost use Rattle.subdivision.specs.State.{IsSubdivision};
 ghost use Rattle.triangulate.specs.SweepSet.{IsSweepSet};
 ghost use Rattle.triangulate.specs.Start.{IsStart, IsSortedStart};
 
@@ -44,6 +45,7 @@ pub fn start(alloc: Global, points: &Points) -> Result<Subdivision, NoMemory>
     ensures count { IfOk result (λ s. HasTriangulationCount points.now s.all) }
     ensures sweep { IfOk result (λ s. AreSweepPairs points.now s.all) }
     ensures set { IfOk result (λ s. IsSweepSet points.now s.all) }
+    ensures subdivision { IfOk result IsSubdivision }
 {
     let list = start_pairs(alloc, points)?;
     Subdivision::from_pairs(alloc, points, list.as_slice())

@@ -1,4 +1,4 @@
-use crate::sweep_pairs;
+use crate::{start, sweep_pairs};
 use plane::{Pair, Point, Points};
 use std::alloc::Global;
 use std::process::Abort;
@@ -56,8 +56,17 @@ fn plain_sweep_pairs(alloc: Global, points: &Points) -> Result<Vec<Pair>, Fail> 
     Ok(pairs)
 }
 
+// The ends of each segment, the smaller first.
+fn ends_of(alloc: Global, pairs: &[Pair]) -> Result<Vec<(u32, u32)>, Fail> {
+    let mut ends = Vec::new(alloc);
+    for e in pairs {
+        ends.push((e.lo(), e.hi()))?;
+    }
+    Ok(ends)
+}
+
 #[test]
-fn the_worked_pairs_come_out(rt: HostRuntime) -> Result<(), Fail> {
+fn the_start_has_the_worked_pairs(rt: HostRuntime) -> Result<(), Fail> {
     let cases: [(&[(i64, i64)], &[(u32, u32)]); 5] = [
         (
             &[(0, 0), (0, 4), (4, 0), (4, 4)],
@@ -88,13 +97,12 @@ fn the_worked_pairs_come_out(rt: HostRuntime) -> Result<(), Fail> {
     ];
     for (list, want) in &cases {
         let points = points_of(&rt, rt.alloc(), list)?;
-        let mut pairs = sweep_pairs(rt.alloc(), &points)?;
-        pairs.sort()?;
-        let mut ends = Vec::new(rt.alloc());
-        for e in &pairs {
-            ends.push((e.lo(), e.hi()))?;
-        }
-        assert_eq!(rt; ends.as_slice(), *want);
+        let whole = start(rt.alloc(), &points)?;
+        assert_eq!(rt; ends_of(rt.alloc(), &whole.pairs()?)?.as_slice(), *want);
+        assert_eq!(rt;
+            ends_of(rt.alloc(), &whole.kept_pairs()?)?.as_slice(),
+            *want
+        );
     }
     Ok(())
 }

@@ -7,5 +7,5 @@ pub returns : goal.returns
 returns c =
     let new = c.sort.new.self.items in
     sorted_start c.args.points.now _ new c.requires
-      (sorted_from _ new c.in_ok-sort.ensures.permutation (λ k d h. not_first (get_or new k d) (get_or new (k + 1) d) (c.in_ok-sort.ensures.sorted k d (omega arith) h)))
-      (omega (arith, c.in_ok-sort.ensures.len))
+    (sorted_from _ new c.in_ok-sort.ensures.permutation (λ k d h. not_first (get_or new k d) (get_or new (k + 1) d) (c.in_ok-sort.ensures.sorted k d (omega arith) h)))
+    (omega (arith, c.in_ok-sort.ensures.len))

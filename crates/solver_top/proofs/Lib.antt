@@ -2,3 +2,4 @@ pub mod Numbers
 pub mod Within
 pub mod Results
 pub mod Commands
+pub mod Complete

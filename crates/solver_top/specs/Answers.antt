@@ -49,12 +49,12 @@ IsJudged input Refused text = IsRefused input text
 -- the refusal of an instance, printed
 abbrev pub IsRefusedInstance : List ℕ → List ℕ → Type 0
 IsRefusedInstance input text = (fault : InstanceFault) × IsNamed fault × HasFault (instance_from input) fault
-  × (text ≡ refusal_line (Instance fault))
+    × (text ≡ refusal_line (Instance fault))
 
 -- the sweep triangulation of the instance that an input is: exactly the sweep pairs, ascending, under the instance's name
 abbrev pub IsStarted : List ℕ → Verdict → List ℕ → Type 0
 IsStarted input Done text = (name : List ℕ) × (S : List Point) × (T : List Pair) × Gives (instance_from input) name S × AreAccepted S
-  × IsSortedStart S T × (text ≡ solution_text name (map ends T) ++ codes "\n")
+    × IsSortedStart S T × (text ≡ solution_text name (map ends T) ++ codes "\n")
 IsStarted input No text = ⊥
 IsStarted input Usage text = ⊥
 IsStarted input Refused text = IsRefusedInstance input text
@@ -94,3 +94,9 @@ IsUsage words input left verdict text =
 abbrev pub IsAnswer : List (List ℕ) → List ℕ → Option (List ℕ) → Verdict → List ℕ → Type 0
 IsAnswer words input left verdict text =
     IsUsage words input left verdict text ⊎ ((command : Command) × IsLineOf words command × IsAnswerOf command input left verdict text)
+
+-- the input has its reading for the command, within the limit
+abbrev pub HasInput : Command → List ℕ → Type 0
+HasInput Judge input = (length input ≤ most_input) × ((S : List Point) × (K : List Pair) × HasBundle input S K)
+HasInput Start input = (length input ≤ most_input) × ((name : List ℕ) × (S : List Point) × Gives (instance_from input) name S × AreAccepted S)
+HasInput (Gen kind n seed) input = Unit {0}

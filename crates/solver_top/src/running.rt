@@ -3,10 +3,15 @@ ghost use Rattle.std.specs.Prelude.{◌≡◌, ◌≢◌, ◌≤◌, ◌⊎◌, 
 ghost use Rattle.std.specs.Io.KnownBytes.{Appends, Keeps};
 ghost use Rattle.mcp_outside.specs.Causes.{Rose};
 ghost use Rattle.mcp_outside.specs.Bytes.{AppendsPrefix};
-ghost use Rattle.solver_top.specs.Words.{words_of};
-ghost use Rattle.solver_top.specs.Lines.{usage_line};
+ghost use Rattle.solver_top.specs.Words.{words_of, IsLineOf};
+ghost use Rattle.plane.specs.declared.coordinates.Point.{Point};
+ghost use Rattle.plane.specs.declared.segment.Pair.{Pair};
+ghost use Rattle.partition_defs.specs.Partition.{IsConvexPartition};
+ghost use Rattle.partition_defs.specs.Triangulation.{AreDistinct};
+ghost use Rattle.solver_top.specs.Bundles.{HasBundle};
+ghost use Rattle.solver_top.specs.Lines.{usage_line, judgement_line};
 ghost use Rattle.solver_top.specs.Statuses.{status_of};
-ghost use Rattle.solver_top.specs.Answers.{IsAnswer, IsAnswerOf, ReadsAll, IsJudged, IsStarted, IsInRange};
+ghost use Rattle.solver_top.specs.Answers.{IsAnswer, IsAnswerOf, ReadsAll, IsJudged, IsStarted, IsInRange, HasInput};
 
 use crate::answers::Answer;
 use crate::generating::generated;
@@ -15,6 +20,7 @@ use crate::lines::usage_line;
 use crate::starting::started;
 use crate::status::{Status, Verdict};
 use crate::words::{Command, read_words};
+use cp_judge::Judgement;
 use mcp_outside::{Gate, ReadEnd, Sink, Source, read_uncounted, write_all};
 use std::alloc::Global;
 use std::thread::Threads;
@@ -157,6 +163,14 @@ pub fn run<R: Threads + Sync, I: Source, O: Sink, G: Gate + Sync>(
     ensures read_fault { result ≡ Status.ReadFault → Rose (I.faults input.old) (I.faults input.new) }
     // Nothing was written after a fault of the source, and where memory was not found.
     ensures silent { (result ≡ Status.ReadFault) ⊎ (result ≡ Status.NoMemory) → out.new ≡ out.old }
+    // A convex partition is told of a bundle whose pairs, none of them twice, are one.
+    ensures convex { (xs : List ℕ) → I.left input.old ≡ Some xs → IsLineOf (words_of words.now) Command.Judge → result ≡ Status.Done →
+        (S : List Point) × (K : List Pair) × HasBundle xs S K × AreDistinct K × IsConvexPartition S K × (I.left input.new ≡ Some [])
+        × Appends (O.contents out.old) (O.contents out.new) (judgement_line (Judgement.Convex (length K))) }
+    // Words that are a line and an input that has its reading are answered by Done or No, where nothing fails.
+    ensures complete { (xs : List ℕ) (command : Command) → I.left input.old ≡ Some xs → IsLineOf (words_of words.now) command →
+        HasInput command xs → ¬ Rose (I.faults input.old) (I.faults input.new) → ¬ Rose (O.faults out.old) (O.faults out.new) →
+        result ≢ Status.NoMemory → (result ≡ Status.Done) ⊎ (result ≡ Status.No) }
     ensures later { (I.faults input.old ≤ I.faults input.new) × (O.faults out.old ≤ O.faults out.new) }
 {
     let _ = rt;

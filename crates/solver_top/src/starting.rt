@@ -44,5 +44,8 @@ fn started_instance(alloc: Global, bytes: &[u8], instance: &Instance) -> Result<
     let pairs = start_pairs(alloc, &instance.points)?;
     let mut text = write_solution(alloc, &instance.name, pairs.as_slice())?;
     text.push(b'\n')?;
-    Ok(Answer { verdict: Verdict::Done, text })
+    Ok(Answer {
+        verdict: Verdict::Done,
+        text,
+    })
 }

@@ -1,0 +1,139 @@
+-- Words that are a line, and an input that has its reading, are answered by Done or No.
+use Rattle.std.proofs.Common.{◌≡◌, ◌≢◌, ℕ, ◌+◌, ◌<◌, ◌≤◌, List, [], ◌∷◌, length, map, codes, Option, Result, Ok, Err, ◌⊎◌, inl, inr, refl, arith, sym, ◌∙◌, ap, subst, ℤ, get_or}
+use Rattle.serde_json.specs.Data.{Data}
+use Rattle.plane.specs.declared.coordinates.Point.{Point}
+use Rattle.plane.specs.declared.coordinates.BadPoints.{BadPoints}
+use Rattle.plane.specs.declared.coordinates.BadPoints.TheVariants.{TooFew, TooMany, TooFar, SamePlace, OneLine}
+use Rattle.plane.specs.declared.segment.Pair.{Pair}
+use Rattle.plane.specs.Accepted.{AreAccepted, IsFault}
+use Rattle.std.proofs.lemmas.List.{length-map}
+use Rattle.text_defs.specs.Instances.{instance_in, instance_from, Fault}
+use Rattle.text_defs.specs.Solutions.{edges_in}
+use Rattle.text_defs.specs.Solutions as edges
+use Rattle.text_defs.specs.Bundles as bundle
+use Rattle.instance_io.specs.declared.instances.Instance.{Instance}
+use Rattle.instance_io.specs.declared.instances.InstanceFault.{InstanceFault}
+use Rattle.instance_io.specs.Refusal.{Gives, HasFault, coordinates}
+use Rattle.instance_io.proofs.Exact.{exact_ok, ok_err}
+use Rattle.solution_io.specs.declared.fault.SolutionFault.{SolutionFault}
+use Rattle.solution_io.specs.declared.fault.SolutionFault.TheVariants as solution
+use Rattle.solution_io.specs.Refusal.{ends, HasFault as HasEdgesFault}
+use Rattle.solver_top.specs.declared.words.Command.{Command}
+use Rattle.solver_top.specs.declared.words.Command.TheVariants.{Judge, Start, Gen}
+use Rattle.solver_top.specs.Statuses.{status_of}
+use Rattle.solver_top.specs.declared.status.Status.{Status}
+use Rattle.solver_top.specs.declared.status.Status.TheVariants as status
+use Rattle.solver_top.specs.declared.status.Verdict.{Verdict}
+use Rattle.solver_top.specs.declared.status.Verdict.TheVariants.{Done, No, Usage, Refused}
+use Rattle.solver_top.specs.declared.refusals.BundleFault.{BundleFault}
+use Rattle.solver_top.specs.declared.refusals.BundleFault.TheVariants.{NotJson, NoInstance, NoSolution}
+use Rattle.solver_top.specs.declared.refusals.Refusal.{Refusal}
+use Rattle.solver_top.specs.declared.refusals.Refusal.TheVariants.{Bundle, Instance as OfInstance, Solution}
+use Rattle.solver_top.specs.Words.{IsLineOf}
+use Rattle.solver_top.specs.Bundles.{HasParts, HasPoints, HasBundle, HasRefusal, HasBundleFault, IsNamed, IsNamedSolution}
+use Rattle.solver_top.specs.Answers.{IsAnswer, IsAnswerOf, IsJudged, IsStarted, IsTooLong, ReadsAll, HasInput, most_input}
+
+no_fault : (S : List Point) (b : BadPoints) → AreAccepted S → IsFault S b → ⊥
+no_fault S (TooFew n) ok h = omega (arith, ok.count.0, h.1, h.0)
+no_fault S (TooMany n) ok h = omega (arith, ok.count.1, h.1, h.0)
+no_fault S (TooFar i) ok h = h.1.holds (ok.near i h.1.within)
+no_fault S (SamePlace i j) ok h = ok.apart i j h.2.ordered h.2.within h.2.holds
+no_fault S OneLine ok h = let (p, q, r, hp, hq, hr, bent) = ok.spread in bent (h.3 p q r hp hq hr)
+
+-- an instance with accepted points has no fault
+given_no_fault : (reading : _) (name : List ℕ) (S : List Point) (f : InstanceFault) → Gives reading name S → AreAccepted S → IsNamed f → HasFault reading f → ⊥
+given_no_fault reading name S f gives ok named fault =
+    let i : Instance = record { name = name; points = S } in
+    ok_err ((exact_ok reading name S i gives (λ b. no_fault S b ok) (λ e. ok_err e) f named).1 fault)
+
+ok_same : {A E : Type 0} {x y : A} → ◌≡◌ {A = Result A E} (Ok x) (Ok y) → x ≡ y
+ok_same e = cc
+
+first_same : (x y : List ℕ) (xs ys : List (List ℕ)) → x ∷ xs ≡ y ∷ ys → x ≡ y
+first_same x y xs ys e = cc
+
+judge_start : codes "judge" ≢ codes "start"
+judge_start e = let f : ◌≡◌ {A = ℕ} 106 115 = ap (λ (xs : List ℕ). get_or xs 0 0) e in omega (arith, f)
+
+judge_gen : codes "judge" ≢ codes "gen"
+judge_gen e = let f : ◌≡◌ {A = ℕ} 106 103 = ap (λ (xs : List ℕ). get_or xs 0 0) e in omega (arith, f)
+
+start_gen : codes "start" ≢ codes "gen"
+start_gen e = let f : ◌≡◌ {A = ℕ} 115 103 = ap (λ (xs : List ℕ). get_or xs 0 0) e in omega (arith, f)
+
+parts_same : (input : List ℕ) (a b c d : Data) → HasParts input a b → HasParts input c d → (a ≡ c) × (b ≡ d)
+parts_same input a b c d h k =
+    let e : ◌≡◌ {A = Result (Data × Data) bundle.Fault} (Ok (a, b)) (Ok (c, d)) = sym h ∙ k in
+    let pair : (a, b) ≡ (c, d) = ok_same e in
+    (ap (λ (p : Data × Data). p.0) pair, ap (λ (p : Data × Data). p.1) pair)
+
+count_same : (reading : Result (List ℕ × List (ℤ × ℤ)) Fault) (n m : List ℕ) (S T : List Point) → Gives reading n S → Gives reading m T → length S ≡ length T
+count_same reading n m S T h k =
+    let e : ◌≡◌ {A = Result (List ℕ × List (ℤ × ℤ)) Fault} (Ok (n, map coordinates S)) (Ok (m, map coordinates T)) = sym h ∙ k in
+    let f : map coordinates S ≡ map coordinates T = ap (λ (p : List ℕ × List (ℤ × ℤ)). p.1) (ok_same e) in
+    sym (length-map S coordinates) ∙ ap length f ∙ length-map T coordinates
+
+no_bundle_fault : (reading : Result (Data × Data) bundle.Fault) (x : Data × Data) (f : BundleFault) → reading ≡ Ok x → HasBundleFault reading f → ⊥
+no_bundle_fault reading x NotJson e h = ok_err (sym e ∙ h)
+no_bundle_fault reading x NoInstance e h = ok_err (sym e ∙ h)
+no_bundle_fault reading x NoSolution e h = ok_err (sym e ∙ h)
+
+no_edges_fault : (reading : Result (List (ℕ × ℕ)) edges.Fault) (ps : List (ℕ × ℕ)) (f : SolutionFault) → reading ≡ Ok ps → IsNamedSolution f → HasEdgesFault reading f → ⊥
+no_edges_fault reading ps solution.NotJson e named h = ok_err (sym e ∙ h)
+no_edges_fault reading ps solution.NoEdges e named h = ok_err (sym e ∙ h)
+no_edges_fault reading ps (solution.TooManyEdges c) e named h = ok_err (sym e ∙ h)
+no_edges_fault reading ps (solution.BadEdge k) e named h = ok_err (sym e ∙ h)
+no_edges_fault reading ps solution.NoMemory e named h = named refl
+
+-- a bundle that has its reading isn't refused
+pub no_refusal : (input : List ℕ) (S : List Point) (K : List Pair) (refusal : Refusal) → HasBundle input S K → HasRefusal input refusal → ⊥
+no_refusal input S K (Bundle f) (a, b, parts, points, edges) h = no_bundle_fault (bundle.parts_from input) (a, b) f parts h
+no_refusal input S K (OfInstance f) (a, b, parts, (name, gives, ok), edges) (c, d, others, named, fault) =
+    given_no_fault (instance_in a) name S f gives ok named (subst (λ (x : Data). HasFault (instance_in x) f) (sym (parts_same input a b c d parts others).0) fault)
+no_refusal input S K (Solution f) (a, b, parts, (name, gives, ok), edges) (c, d, others, (T, (m, told, fine), named, fault)) =
+    let same = parts_same input a b c d parts others in
+    let count = count_same (instance_in a) name m S T gives (subst (λ (x : Data). Gives (instance_in x) m T) (sym same.0) told) in
+    no_edges_fault (edges_in (length S) b) (map ends K) f edges named
+    (subst (λ (x : Data). HasEdgesFault (edges_in (length S) x) f) (sym same.1) (subst (λ (n : ℕ). HasEdgesFault (edges_in n d) f) (sym count) fault))
+
+abbrev IsAnswered : Verdict → Type 0
+IsAnswered verdict = (verdict ≡ Done) ⊎ (verdict ≡ No)
+
+judged_answer : (input : List ℕ) (S : List Point) (K : List Pair) (verdict : Verdict) (text : List ℕ) → HasBundle input S K → IsJudged input verdict text → IsAnswered verdict
+judged_answer input S K Done text has h = inl refl
+judged_answer input S K No text has h = inr refl
+judged_answer input S K Usage text has h = absurd h
+judged_answer input S K Refused text has (refusal, h, e) = absurd (no_refusal input S K refusal has h)
+
+started_answer : (input : List ℕ) (name : List ℕ) (S : List Point) (verdict : Verdict) (text : List ℕ) → Gives (instance_from input) name S → AreAccepted S → IsStarted input verdict text → IsAnswered verdict
+started_answer input name S Done text gives ok h = inl refl
+started_answer input name S No text gives ok h = absurd h
+started_answer input name S Usage text gives ok h = absurd h
+started_answer input name S Refused text gives ok (f, named, fault, e) = absurd (given_no_fault (instance_from input) name S f gives ok named fault)
+
+long_enough : (input : List ℕ) (left : Option (List ℕ)) (verdict : Verdict) (text : List ℕ) → length input ≤ most_input → IsTooLong input left verdict text → ⊥
+long_enough input left verdict text few h = omega (arith, h.0.0)
+
+-- a line's answer, where the input has its reading
+command_answered : (words : List (List ℕ)) (command other : Command) (input : List ℕ) (left : Option (List ℕ)) (verdict : Verdict) (text : List ℕ) → IsLineOf words command → IsLineOf words other → HasInput command input → IsAnswerOf other input left verdict text → IsAnswered verdict
+command_answered words Judge Judge input left verdict text line own (few, (S, K, has)) (inl long) = absurd (long_enough input left verdict text few long)
+command_answered words Judge Judge input left verdict text line own (few, (S, K, has)) (inr (len, at_end, h)) = judged_answer input S K verdict text has h
+command_answered words Start Start input left verdict text line own (few, (name, S, gives, ok)) (inl long) = absurd (long_enough input left verdict text few long)
+command_answered words Start Start input left verdict text line own (few, (name, S, gives, ok)) (inr (len, at_end, h)) = started_answer input name S verdict text gives ok h
+command_answered words (Gen k n s) (Gen k' n' s') input left verdict text line own has h = inl h.1
+command_answered words Judge Start input left verdict text line own has h = absurd (judge_start (first_same (codes "judge") (codes "start") [] [] (sym line ∙ own)))
+command_answered words Judge (Gen k n s) input left verdict text line own has h = absurd (judge_gen (first_same (codes "judge") (codes "gen") [] _ (sym line ∙ own.0)))
+command_answered words Start Judge input left verdict text line own has h = absurd (judge_start (first_same (codes "judge") (codes "start") [] [] (sym own ∙ line)))
+command_answered words Start (Gen k n s) input left verdict text line own has h = absurd (start_gen (first_same (codes "start") (codes "gen") [] _ (sym line ∙ own.0)))
+command_answered words (Gen k n s) Judge input left verdict text line own has h = absurd (judge_gen (first_same (codes "judge") (codes "gen") [] _ (sym own ∙ line.0)))
+command_answered words (Gen k n s) Start input left verdict text line own has h = absurd (start_gen (first_same (codes "start") (codes "gen") [] _ (sym own ∙ line.0)))
+
+-- words that are a line, and an input that has its reading, are answered by Done or No
+pub is_answered : (words : List (List ℕ)) (command : Command) (input : List ℕ) (left : Option (List ℕ)) (verdict : Verdict) (text : List ℕ) → IsLineOf words command → HasInput command input → IsAnswer words input left verdict text → IsAnswered verdict
+is_answered words command input left verdict text line has (inl (is, kept, (k, fault, e))) = absurd (fault.none command line)
+is_answered words command input left verdict text line has (inr (other, own, h)) = command_answered words command other input left verdict text line own has h
+
+-- the status of such a verdict
+pub done_or_no : (verdict : Verdict) (s : Status) → IsAnswered verdict → s ≡ status_of verdict → (s ≡ status.Done) ⊎ (s ≡ status.No)
+done_or_no verdict s (inl e) h = inl (h ∙ ap status_of e)
+done_or_no verdict s (inr e) h = inr (h ∙ ap status_of e)

@@ -1,5 +1,5 @@
 -- Words that are a line, and an input that has its reading, are answered by Done or No.
-use Rattle.std.proofs.Common.{◌≡◌, ◌≢◌, ℕ, ◌+◌, ◌<◌, ◌≤◌, List, [], ◌∷◌, length, map, codes, Option, Result, Ok, Err, ◌⊎◌, inl, inr, refl, arith, sym, ◌∙◌, ap, subst, ℤ, get_or}
+use Rattle.std.proofs.Common.{◌≡◌, ◌≢◌, ℕ, ◌≤◌, List, [], ◌∷◌, length, map, codes, Option, Result, Ok, ◌⊎◌, inl, inr, refl, arith, sym, ◌∙◌, ap, subst, ℤ, get_or}
 use Rattle.serde_json.specs.Data.{Data}
 use Rattle.plane.specs.declared.coordinates.Point.{Point}
 use Rattle.plane.specs.declared.coordinates.BadPoints.{BadPoints}
@@ -30,8 +30,8 @@ use Rattle.solver_top.specs.declared.refusals.BundleFault.TheVariants.{NotJson, 
 use Rattle.solver_top.specs.declared.refusals.Refusal.{Refusal}
 use Rattle.solver_top.specs.declared.refusals.Refusal.TheVariants.{Bundle, Instance as OfInstance, Solution}
 use Rattle.solver_top.specs.Words.{IsLineOf}
-use Rattle.solver_top.specs.Bundles.{HasParts, HasPoints, HasBundle, HasRefusal, HasBundleFault, IsNamed, IsNamedSolution}
-use Rattle.solver_top.specs.Answers.{IsAnswer, IsAnswerOf, IsJudged, IsStarted, IsTooLong, ReadsAll, HasInput, most_input}
+use Rattle.solver_top.specs.Bundles.{HasParts, HasBundle, HasRefusal, HasBundleFault, IsNamed, IsNamedSolution}
+use Rattle.solver_top.specs.Answers.{IsAnswer, IsAnswerOf, IsJudged, IsStarted, IsTooLong, HasInput, most_input}
 
 no_fault : (S : List Point) (b : BadPoints) → AreAccepted S → IsFault S b → ⊥
 no_fault S (TooFew n) ok h = omega (arith, ok.count.0, h.1, h.0)

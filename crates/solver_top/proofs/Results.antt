@@ -1,5 +1,7 @@
 -- Facts about the value of a result, carried on.
-use Rattle.std.proofs.Common.{◌≡◌, Option, Some, None, Result, Ok, Err, IfOk, IfSome, rules, sym, subst}
+use Rattle.mcp_outside.specs.declared.ends.ReadEnd.{ReadEnd}
+use Rattle.mcp_outside.specs.declared.ends.ReadEnd.TheVariants.{Failed, TooLong}
+use Rattle.std.proofs.Common.{◌≡◌, Option, Some, None, Result, Ok, Err, IfOk, IfSome, subst}
 
 pub if_ok : {A E : Type 0} (r : Result A E) (P Q : A → Type 0) → IfOk r P → ((x : A) → P x → Q x) → IfOk r Q
 if_ok (Ok x) P Q h f = f x h
@@ -12,3 +14,7 @@ if_ok_both (Err e) P Q R h k f = tt
 pub if_some_at : {A : Type 0} (o : Option A) (x : A) (P : A → Type 0) → o ≡ Some x → IfSome o P → P x
 if_some_at None x P e h = absurd (cc)
 if_some_at (Some y) x P e h = let same : y ≡ x = cc in subst P same h
+
+-- a reading that ended past the limit didn't fail
+pub long_is_no_fault : {A : Type 0} (r : Result A ReadEnd) → r ≡ Err TooLong → r ≡ Err Failed → ⊥
+long_is_no_fault r h k = cc

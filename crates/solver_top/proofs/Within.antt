@@ -1,8 +1,8 @@
 -- The pairs of a solution have ends that are indices of points.
-use Rattle.std.proofs.Common.{◌≡◌, ℕ, zero, suc, ◌<◌, ◌≤◌, List, [], ◌∷◌, length, map, min, max, ℤ, pos, negsuc, Option, Some, None, Result, Ok, Err, Bool, true, false, cond, slice_index_or, nat_lt, nat_le, nat_eq, ◌==◌, codes, option_and_then, arith, rules, sym, ◌∙◌, ap, refl, subst, ◌^◌}
+use Rattle.std.proofs.Common.{◌≡◌, ℕ, zero, suc, ◌<◌, ◌≤◌, List, [], ◌∷◌, length, map, min, max, ℤ, pos, negsuc, Option, Some, None, Ok, Err, Bool, true, false, cond, slice_index_or, nat_lt, nat_le, ◌==◌, codes, option_and_then, arith, refl, subst, ◌^◌}
 use Rattle.std.proofs.lemmas.List.{length-map}
 use Rattle.std.proofs.lemmas.Bool.Decides.{nat_tests}
-use Rattle.std.specs.List.{filter_map, AllByRecursion, Contains, cons_option}
+use Rattle.std.specs.List.{filter_map, AllByRecursion, cons_option}
 use Rattle.serde_json.specs.Data.{Data, Items}
 use Rattle.plane.specs.declared.coordinates.Point.{Point}
 use Rattle.plane.specs.declared.segment.Pair.{Pair}

@@ -1,5 +1,5 @@
 -- The lines that are printed. (This project's own.)
-use Rattle.std.specs.Prelude.{ℕ, List, [], ◌∷◌, ◌++◌, codes}
+use Rattle.std.specs.Prelude.{ℕ, List, ◌++◌, codes}
 use Rattle.std.specs.Fmt.{decimal}
 use Rattle.plane.specs.declared.segment.Pair.{Pair}
 use Rattle.plane.specs.declared.coordinates.BadPoints.{BadPoints}

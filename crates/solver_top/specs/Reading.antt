@@ -1,5 +1,5 @@
 -- For private clauses: what is told of an input that gave no value.
-use Rattle.std.specs.Prelude.{◌≡◌, ℕ, List, length}
+use Rattle.std.specs.Prelude.{ℕ, List}
 use Rattle.solver_top.specs.declared.refusals.Unread.{Unread}
 use Rattle.solver_top.specs.declared.refusals.Unread.TheVariants.{Refused, NoMemory}
 use Rattle.solver_top.specs.Bundles.{HasRefusal}

@@ -90,9 +90,7 @@ fn judge_answer<I: Source>(alloc: Global, input: &mut I) -> Result<Answer, Halt>
             Ok(answer) => Ok(answer),
             Err(_) => Err(Halt::NoMemory),
         },
-        Err(ReadEnd::TooLong) => too_long(alloc),
-        Err(ReadEnd::Failed) => Err(Halt::ReadFault),
-        Err(ReadEnd::NoMemory) => Err(Halt::NoMemory),
+        Err(end) => unread(alloc, end),
     }
 }
 
@@ -108,9 +106,20 @@ fn start_answer<I: Source>(alloc: Global, input: &mut I) -> Result<Answer, Halt>
             Ok(answer) => Ok(answer),
             Err(_) => Err(Halt::NoMemory),
         },
-        Err(ReadEnd::TooLong) => too_long(alloc),
-        Err(ReadEnd::Failed) => Err(Halt::ReadFault),
-        Err(ReadEnd::NoMemory) => Err(Halt::NoMemory),
+        Err(end) => unread(alloc, end),
+    }
+}
+
+// The answer to an input that wasn't read whole, or the halt.
+fn unread(alloc: Global, end: ReadEnd) -> Result<Answer, Halt>
+    ensures long { IfOk result (λ answer. (end ≡ ReadEnd.TooLong) × (answer.verdict ≡ Verdict.Refused)
+        × (answer.text.items ≡ codes "refused TooLong\n")) }
+    ensures failed { IsErrOf result Halt.ReadFault → end ≡ ReadEnd.Failed }
+{
+    match end {
+        ReadEnd::TooLong => too_long(alloc),
+        ReadEnd::Failed => Err(Halt::ReadFault),
+        ReadEnd::NoMemory => Err(Halt::NoMemory),
     }
 }
 

@@ -116,6 +116,7 @@ fn refuses_and_generates(rt: HostRuntime) -> Result<(), Fail> {
         ("", "", Status::Usage, "usage 0\n"),
         ("solv", "", Status::Usage, "usage 0\n"),
         ("judge judge", "", Status::Usage, "usage 1\n"),
+        ("start start", "", Status::Usage, "usage 1\n"),
         ("gen", "", Status::Usage, "usage 1\n"),
         ("gen heap 5 1", "", Status::Usage, "usage 1\n"),
         ("gen scatter 2 1", "", Status::Usage, "usage 2\n"),
@@ -165,6 +166,112 @@ fn refuses_and_generates(rt: HostRuntime) -> Result<(), Fail> {
         )?;
         assert_eq!(rt; ended, status, "{line}");
         assert_eq!(rt; written.as_slice(), text.as_bytes(), "{line}");
+    }
+    Ok(())
+}
+
+// An instance with these points as JSON, each `X,Y`.
+fn instance(alloc: Global, points: &str) -> Result<Vec<u8>, Fail> {
+    let mut text = String::from_str(alloc, "{\"name\":\"w\",\"points\":[")?;
+    let mut later = false;
+    for point in points.split_whitespace() {
+        if later {
+            text.push_str(",")?;
+        }
+        later = true;
+        let (x, y) = point.split_once(',').unwrap_or(("", ""));
+        text.push_str("{\"x\":")?;
+        text.push_str(x)?;
+        text.push_str(",\"y\":")?;
+        text.push_str(y)?;
+        text.push_str("}")?;
+    }
+    text.push_str("]}")?;
+    Ok(text.into_bytes())
+}
+
+// The starts of small lists, and the faults of an instance. The answers were worked out by hand.
+#[test]
+fn starts_small_instances(rt: HostRuntime) -> Result<(), Fail> {
+    let triangle =
+        "{\"edges\":[{\"i\":0,\"j\":1},{\"i\":0,\"j\":2},{\"i\":1,\"j\":2}],\"instance_name\":\"w\",\"type\":\"Solution\"}\n";
+    let cases = [
+        (
+            "0,0 0,4 4,0 4,4",
+            Status::Done,
+            "{\"edges\":[{\"i\":0,\"j\":1},{\"i\":0,\"j\":2},{\"i\":1,\"j\":2},{\"i\":1,\"j\":3},{\"i\":2,\"j\":3}],\"instance_name\":\"w\",\"type\":\"Solution\"}\n",
+        ),
+        (
+            "0,0 1,1 2,2 3,3 4,4",
+            Status::Refused,
+            "refused instance OneLine\n",
+        ),
+        (
+            "0,0 1,1 0,0",
+            Status::Refused,
+            "refused instance SamePlace 0 2\n",
+        ),
+        ("0,0 1,1", Status::Refused, "refused instance TooFew 2\n"),
+        ("0,0 12,12.0 0,5", Status::Done, triangle),
+        ("0,0 12,-0 0,5", Status::Done, triangle),
+        ("0,0 12,\"12\" 0,5", Status::Done, triangle),
+        (
+            "0,0 12,12.5 0,5",
+            Status::Refused,
+            "refused instance NotWhole 1\n",
+        ),
+        (
+            "0,0 12,1e3 0,5",
+            Status::Refused,
+            "refused instance NotWhole 1\n",
+        ),
+        (
+            "0,0 12,99999999999999999999 0,5",
+            Status::Refused,
+            "refused instance TooFar 1\n",
+        ),
+        (
+            "-1073741823,-1073741823 1073741823,-1073741823 -1073741823,1073741823",
+            Status::Done,
+            triangle,
+        ),
+        (
+            "-1073741823,-1073741823 1073741823,-1073741823 -1073741823,1073741824",
+            Status::Refused,
+            "refused instance TooFar 2\n",
+        ),
+    ];
+    for (points, status, text) in cases {
+        let (ended, written) = ran(&rt, rt.alloc(), "start", instance(rt.alloc(), points)?)?;
+        assert_eq!(rt; ended, status, "{points}");
+        assert_eq!(rt; written.as_slice(), text.as_bytes(), "{points}");
+    }
+    Ok(())
+}
+
+// The longest input, and one byte more.
+#[test]
+fn refuses_an_input_beyond_the_limit(rt: HostRuntime) -> Result<(), Fail> {
+    let alloc = rt.alloc();
+    let cases = [
+        (33_554_432, "refused instance NotJson\n"),
+        (33_554_433, "refused TooLong\n"),
+    ];
+    for (length, text) in cases {
+        let words = words_of(alloc, "start")?;
+        let spaces = Vec::from_elem(alloc, b' ', length)?;
+        let mut source = MemorySource::make(spaces, 1_000_000, Vec::new(alloc));
+        let mut sink = MemorySink::make(alloc, 1_000, 100, Vec::new(alloc))?;
+        let status = run(
+            &rt,
+            alloc,
+            words.as_slice(),
+            &mut source,
+            &mut sink,
+            &OpenGate,
+        );
+        assert_eq!(rt; status, Status::Refused, "{length} bytes");
+        assert_eq!(rt; sink.written(), text.as_bytes(), "{length} bytes");
     }
     Ok(())
 }

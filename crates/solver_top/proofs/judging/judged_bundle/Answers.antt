@@ -1,4 +1,4 @@
-use Rattle.std.proofs.Common.{◌≡◌, ◌<◌, ◌^◌, List, length, sym, subst}
+use Rattle.std.proofs.Common.{◌<◌, ◌^◌, List, length, sym, subst}
 use Rattle.plane.specs.declared.segment.Pair.{Pair}
 use Rattle.partition_defs.specs.Partition.{AreWithin}
 use Rattle.solver_top.proofs.Within.{solution_within}

@@ -1,4 +1,4 @@
-use Rattle.std.proofs.Common.{◌≡◌, inr}
+use Rattle.std.proofs.Common.{inr}
 use Rattle.solver_top.proofs.Results.{if_ok}
 use Rattle.solver_top.proofs.running.answer.Goals as goal
 

@@ -1,4 +1,4 @@
-use Rattle.std.proofs.Common.{inl, inr, sym, ◌∙◌, ap}
+use Rattle.std.proofs.Common.{inl, inr}
 use Rattle.solver_top.proofs.Complete.{is_answered, done_or_no}
 use Rattle.solver_top.proofs.running.run.Goals as goal
 

@@ -1,9 +1,9 @@
-use Rattle.std.proofs.Common.{◌≡◌, ◌+◌, List, ℕ, Result, Ok, Err, inl, ap, codes}
-use Rattle.solver_top.proofs.Results.{if_ok_both, if_some_at}
-use Rattle.solver_top.specs.declared.status.Verdict.TheVariants.{Refused}
+use Rattle.std.proofs.Common.{Err, inl, ap, ◌∙◌}
+use Rattle.solver_top.proofs.Results.{if_ok, if_some_at, long_is_no_fault}
 use Rattle.solver_top.proofs.running.start_answer.Goals as goal
 
-pub returns-in-Err-TooLong-clause-answer : goal.returns-in-Err-TooLong-clause-answer
-returns-in-Err-TooLong-clause-answer g c = λ xs told.
-    let took = (if_some_at _ xs _ told c.in-Err-TooLong.ensures.too_long (λ e. cc)).0 (ap Err c.in-Err-TooLong.field-0-is) in
-    if_ok_both c.too_long.result _ _ _ c.too_long.ensures.verdict c.too_long.ensures.text (λ answer verdict text. inl (took, verdict, text))
+pub returns-clause-answer : goal.returns-clause-answer
+returns-clause-answer g c = λ xs told.
+    if_ok c.unread.result _ _ c.unread.ensures.long (λ answer h.
+    let long = c.in-Err.is ∙ ap Err h.0 in
+    inl ((if_some_at _ xs _ told c.read_uncounted.ensures.too_long (long_is_no_fault _ long)).0 long, h.1, h.2))

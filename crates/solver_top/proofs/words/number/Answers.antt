@@ -1,4 +1,4 @@
-use Rattle.std.proofs.Common.{arith, sym, ◌∙◌, ap, rules}
+use Rattle.std.proofs.Common.{arith, sym, ◌∙◌, ap}
 use Rattle.std.specs.Fmt.{decimal}
 use Rattle.solver_top.proofs.Numbers.{reads_as, reads_always}
 use Rattle.solver_top.proofs.words.number.Goals as goal

@@ -7,6 +7,12 @@ use std::thread::Threads;
 const SQUARE: &str =
     r#"{"instance":{"name":"sq","points":[{"x":0,"y":0},{"x":0,"y":4},{"x":4,"y":0},{"x":4,"y":4}]},"solution":{"edges":["#;
 
+const SQUARE_WITH_A_FRACTION: &str =
+    r#"{"instance":{"name":"sq","points":[{"x":0,"y":0},{"x":0,"y":4.0},{"x":4,"y":0},{"x":4,"y":4}]},"solution":{"edges":["#;
+
+const SAME_PLACE: &str =
+    r#"{"instance":{"name":"sq","points":[{"x":0,"y":0},{"x":0,"y":4},{"x":4,"y":0},{"x":0,"y":0}]},"solution":{"edges":["#;
+
 const CENTRED: &str =
     r#"{"instance":{"name":"sqc","points":[{"x":0,"y":0},{"x":0,"y":4},{"x":4,"y":0},{"x":4,"y":4},{"x":2,"y":2}]},"solution":{"edges":["#;
 
@@ -71,6 +77,18 @@ fn judges_small_bundles(rt: HostRuntime) -> Result<(), Fail> {
             "01 20 13 23",
             Status::Done,
             "convex partition 4 segments\n",
+        ),
+        (
+            SQUARE_WITH_A_FRACTION,
+            "01 20 13 23",
+            Status::Done,
+            "convex partition 4 segments\n",
+        ),
+        (
+            SAME_PLACE,
+            "01 20 13 23",
+            Status::Refused,
+            "refused instance SamePlace 0 3\n",
         ),
         (
             SQUARE,

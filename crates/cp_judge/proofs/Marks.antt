@@ -7,7 +7,8 @@ use Rattle.plane.specs.declared.segment.Pair.{Pair}
 use Rattle.plane.specs.First.{IsLeast, IsLeastOrNone}
 use Rattle.plane.specs.Geometry.{IsInner}
 use Rattle.partition_defs.specs.Partition.{HasEnds, AreWithin, IsMet, MeetsNeedsAt}
-use Rattle.cp_judge.specs.Violation.{StandsAt, IsOtherEnd, IsSeen, IsMetBy, IsMetBefore, mark, AddsMarks, IsUnmetAt, IsUnmet}
+use Rattle.cp_judge.specs.Ends.{IsOtherEnd}
+use Rattle.cp_judge.specs.Violation.{StandsAt, IsSeen, IsMetBy, IsMetBefore, mark, AddsMarks, IsUnmetAt, IsUnmet}
 use Rattle.cp_judge.proofs.Items.{stands_same}
 
 pub end_in : (e : Pair) (p r n : ℕ) → HasEnds e p r → e.hi < n → r < n
@@ -88,6 +89,12 @@ unmet_from S K p M N (Some r) within none h least =
           let w = least.within in let l : j < length S = omega arith in
           least.before j m (u.0, false_unless (mark N j) (λ t. u.1 (marked_met S K p j M N within (none j l) (h j l) t)));
     }
+
+pub unmet_inner : (S : List Point) (K : List Pair) (p : ℕ) (o : Option ℕ) → IsInner S p
+    → MatchOption o (MeetsNeedsAt S K p) (IsLeast (IsUnmetAt S K p) (length S))
+    → MatchOption o (IsInner S p → MeetsNeedsAt S K p) (λ q. IsInner S p × IsLeast (IsUnmetAt S K p) (length S) q)
+unmet_inner S K p None inner met = λ _. met
+unmet_inner S K p (Some q) inner least = (inner, least)
 
 pub unmet_found : (S : List Point) (K : List Pair) (p q : ℕ) → p < length S → IsInner S p → IsLeast (IsUnmetAt S K p) (length S) q
     → ((j : ℕ) → j < p → IsInner S j → MeetsNeedsAt S K j) → IsUnmet S K p q

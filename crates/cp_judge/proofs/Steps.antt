@@ -35,7 +35,7 @@ left_bent e = cc
 joins_back : (K : List Pair) (i j : ℕ) → Joins K i j → Joins K j i
 joins_back K i j h = (h.0, h.1, h.2, h.3, ⊎_elim (λ u. inr u) (λ u. inl u) h.4)
 
-border_back : (S : List Point) (i j : ℕ) → IsBorderPair S i j → IsBorderPair S j i
+pub border_back : (S : List Point) (i j : ℕ) → IsBorderPair S i j → IsBorderPair S j i
 border_back S i j h = (clear_back S i j h.0, ⊎_elim (λ u. inr u) (λ u. inl u) h.1)
 
 missing_back : (S : List Point) (K : List Pair) (i j : ℕ) → IsMissing S K i j → IsMissing S K j i

@@ -85,11 +85,6 @@ HasUnmet S K p = IsInner S p × ((q : ℕ) × (q < length S) × IsUnmetAt S K p 
 abbrev pub IsUnmet : List Point → List Pair → (p q : ℕ) → Type 0
 IsUnmet S K p q = IsLeast (HasUnmet S K) (length S) p × IsLeast (IsUnmetAt S K p) (length S) q
 
--- the other end of a segment at p, or none where it isn't at p
-abbrev pub IsOtherEnd : Pair → ℕ → Option ℕ → Type 0
-IsOtherEnd e p None = (r : ℕ) → ¬ HasEnds e p r
-IsOtherEnd e p (Some r) = (s : ℕ) → HasEnds e p s ↔ (s ≡ r)
-
 -- r is in the need of p for another point q
 abbrev pub IsSeen : List Point → (p q r : ℕ) → Type 0
 IsSeen S p q r = (q ≢ p) × IsInNeed S p q r

@@ -13,6 +13,7 @@ mod border;
 mod clear;
 mod crossing;
 mod doubled;
+mod ends;
 mod needs;
 
 pub use answer::Judgement;

@@ -1,23 +1,43 @@
-// Needs that aren't met. One walk over the list marks the points for which the needs of a point are met.
+// Needs that aren't met. Where the need of a point for each of its ends is met, all its needs are, so that mostly the ends
+// alone are tried. Where they don't show it, one walk over the list marks the points for which the needs are met.
 ghost use Rattle.std.specs.Prelude.{◌≡◌, ◌≢◌, ◌<◌, ◌≤◌, ◌⊎◌, ◌↔◌, length, IsTrue, MatchOption, false};
 ghost use Rattle.plane.specs.First.{IsLeast, IsLeastOrNone};
 ghost use Rattle.plane.specs.Geometry.{IsInner};
 ghost use Rattle.partition_defs.specs.Partition.{AreWithin, MeetsNeedsAt, MeetsNeeds};
-ghost use Rattle.cp_judge.specs.Violation.{IsOtherEnd, IsSeen, IsMetBy, IsMetBefore, mark, AddsMarks, IsUnmetAt, IsUnmet};
+ghost use Rattle.cp_judge.specs.Ends.{AreOthers, IsMetAmong, MeetsNeedsAmong, IsUnmetAmong};
+ghost use Rattle.cp_judge.specs.Violation.{IsSeen, IsMetBy, IsMetBefore, mark, AddsMarks, IsUnmetAt, IsUnmet};
 
+use crate::ends::{gather_ends, other_end};
+use arrayvec::ArrayVec;
 use plane::{MOST_POINTS, Pair, Points};
 
-// The other end of a segment at this point, or none where it isn't at it.
-fn other_end(e: Pair, p: u32) -> Option<u32>
-    ensures { IsOtherEnd e p result }
+// Whether some of these ends is in the need of p for q.
+fn is_met_among(points: &Points, ends: &[u32], p: u32, q: u32) -> bool
+    requires p_in { p < length points.now }
+    requires q_in { q < length points.now }
+    requires differ { p ≢ q }
+    requires others { AreOthers points.now p ends.now }
+    ensures { IsTrue result ↔ IsMetAmong points.now ends.now p q }
 {
-    if e.lo() == p {
-        Some(e.hi())
-    } else if e.hi() == p {
-        Some(e.lo())
-    } else {
-        None
+    ends.iter().any(|r| points.in_need(p, q, *r))
+}
+
+// A point for which the need of p isn't met among these ends, or none: one of the ends, where there are some.
+fn unmet_among(points: &Points, ends: &[u32], p: u32) -> Option<u32>
+    requires p_in { p < length points.now }
+    requires others { AreOthers points.now p ends.now }
+    ensures { MatchOption result (MeetsNeedsAmong points.now ends.now p) (λ q. IsUnmetAmong points.now ends.now p q) }
+{
+    let _count = points.len();
+    if ends.is_empty() {
+        return Some(if p == 0 { 1 } else { 0 });
     }
+    for q in ends {
+        if !is_met_among(points, ends, p, *q) {
+            return Some(*q);
+        }
+    }
+    None
 }
 
 // Whether r is in the need of p for another point q, or a mark says so already.
@@ -92,14 +112,29 @@ fn first_unmet_at(points: &Points, list: &[Pair], p: u32) -> Option<u32>
     first_unmarked(&marks, count, p)
 }
 
-// The same for an inner point, and none for another. Whether it is one is asked last, since it takes the longest.
-fn first_unmet_of(points: &Points, list: &[Pair], p: u32) -> Option<u32>
+// The same for an inner point, and none for another. What takes longest is asked last.
+fn first_unmet_of(
+    points: &Points,
+    list: &[Pair],
+    p: u32,
+    ends: &mut ArrayVec<u32, MOST_POINTS>,
+) -> Option<u32>
     requires within { AreWithin points.now list.now }
     requires p_in { p < length points.now }
     ensures { MatchOption result (IsInner points.now p → MeetsNeedsAt points.now list.now p) (λ q. IsInner points.now p × IsLeast (IsUnmetAt points.now list.now p) (length points.now) q) }
 {
-    let q = first_unmet_at(points, list, p)?;
-    if points.is_inner(p) { Some(q) } else { None }
+    if gather_ends(list, p, ends) {
+        let q = unmet_among(points, ends.as_slice(), p)?;
+        // At a border point, this pair is mostly on the border.
+        if points.is_border(Pair::of(p, q)) {
+            return None;
+        }
+    }
+    if points.is_inner(p) {
+        first_unmet_at(points, list, p)
+    } else {
+        None
+    }
 }
 
 /// The least inner point with a need that isn't met, and the least point for which it isn't, or none.
@@ -107,8 +142,9 @@ pub fn first_unmet(points: &Points, list: &[Pair]) -> Option<(u32, u32)>
     requires { AreWithin points.now list.now }
     ensures { MatchOption result (MeetsNeeds points.now list.now) (λ v. IsUnmet points.now list.now v.0 v.1) }
 {
+    let mut ends = ArrayVec::new();
     for p in 0..points.len() {
-        if let Some(q) = first_unmet_of(points, list, p) {
+        if let Some(q) = first_unmet_of(points, list, p, &mut ends) {
             return Some((p, q));
         }
     }

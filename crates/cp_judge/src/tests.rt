@@ -41,7 +41,7 @@ const SIDED: [(i64, i64); 5] = [(0, 0), (2, 0), (4, 0), (0, 4), (1, 1)];
 #[test]
 fn the_first_violation_is_shown(rt: HostRuntime) -> Result<(), Fail> {
     // Each list of points and of pairs, and its judgement by hand from the definition.
-    let cases: [(&[(i64, i64)], &[(u32, u32)], Judgement); 17] = [
+    let cases: [(&[(i64, i64)], &[(u32, u32)], Judgement); 20] = [
         (
             &SQUARE,
             &[(0, 1), (2, 0), (1, 3), (2, 3)],
@@ -72,6 +72,23 @@ fn the_first_violation_is_shown(rt: HostRuntime) -> Result<(), Fail> {
             &CENTRED,
             &[(0, 1), (0, 2), (1, 3), (2, 3), (1, 4), (2, 4)],
             Judgement::Convex(6),
+        ),
+        // A straight angle between two of three ends is no gap.
+        (
+            &CENTRED,
+            &[(0, 1), (0, 2), (1, 3), (2, 3), (0, 4), (1, 4), (3, 4)],
+            Judgement::Convex(7),
+        ),
+        // The least point is shown, which is no end here.
+        (
+            &CENTRED,
+            &[(0, 1), (0, 2), (1, 3), (2, 3), (3, 4)],
+            Judgement::Unmet(4, 1),
+        ),
+        (
+            &CENTRED,
+            &[(0, 1), (0, 2), (1, 3), (2, 3)],
+            Judgement::Unmet(4, 0),
         ),
         (
             &SQUARE,

@@ -6,3 +6,4 @@ pub mod Area
 pub mod Along
 pub mod Outermost
 pub mod Quadruple
+pub mod Boxed

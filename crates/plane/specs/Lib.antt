@@ -3,4 +3,4 @@ pub mod Geometry
 pub mod Accepted
 pub mod Making
 pub mod Hull
-pub mod Ranges
+pub mod Boxes

@@ -3,6 +3,7 @@
 #![tactic(auto)]
 
 mod accepted;
+mod bounding_box;
 mod coordinates;
 mod hull;
 mod kernel;

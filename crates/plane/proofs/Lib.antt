@@ -6,4 +6,5 @@ pub mod Area
 pub mod Along
 pub mod Outermost
 pub mod Quadruple
+pub mod Rising
 pub mod Boxed

@@ -7,4 +7,6 @@ pub mod Along
 pub mod Outermost
 pub mod Quadruple
 pub mod Rising
+pub mod Enclosed
 pub mod Boxed
+pub mod Furthest

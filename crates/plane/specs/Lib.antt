@@ -4,3 +4,4 @@ pub mod Accepted
 pub mod Making
 pub mod Hull
 pub mod Boxes
+pub mod Guides

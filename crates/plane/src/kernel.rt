@@ -1,4 +1,5 @@
-// The numbers that the tests are made of, on coordinates. Nothing else computes with coordinates.
+// The numbers that the tests are made of, on coordinates. Besides, only the choice of guide points computes with
+// coordinates.
 ghost use Rattle.std.specs.Prelude.{◌≡◌, ◌*◌, ◌≤◌, ◌↔◌, ◌-ℤ◌, ◌*ℤ◌, unsigned_abs, IsTrue};
 ghost use Rattle.plane.specs.Geometry.{area, scalar, IsTurn, AreOpposite, LiesBetween, DoCross};
 ghost use Rattle.plane.specs.Accepted.{IsNear};

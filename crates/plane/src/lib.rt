@@ -5,6 +5,7 @@
 mod accepted;
 mod bounding_box;
 mod coordinates;
+mod guides;
 mod hull;
 mod kernel;
 mod making;

@@ -5,8 +5,7 @@ use Rattle.std.proofs.lemmas.List.{get_or_default}
 use Rattle.std.proofs.lemmas.Int.{ints}
 use Rattle.std.proofs.Math.IntN.{zero-*ℤ, *ℤ_comm}
 use Rattle.plane.specs.declared.coordinates.Point.{Point}
-use Rattle.plane.specs.declared.segment.Pair.{Pair, ordered-type}
-use Rattle.std.proofs.Math.Bridge.{le_prop}
+use Rattle.plane.specs.declared.segment.Pair.{Pair}
 use Rattle.plane.specs.First.{IsLeast}
 use Rattle.plane.specs.Geometry.{area, point, IsBetween, IsClear, AreCrossing, AreOpposite}
 use Rattle.partition_defs.specs.Partition.{ArePlane}
@@ -92,16 +91,3 @@ crossing_found S K a b e f se sf l h before after = (
         subst P (sym u.0) (after m (subst Q u.0 o) u.1)) c;
   },
 )
-
-ordered_once : (a b : ℕ) → IsProp (ordered-type a b)
-ordered_once a b = le_prop
-
-made : (a b : ℕ) → ordered-type a b → Pair
-made a b o = record { lo = a; hi = b; ordered = o }
-
-pub pair_same : (e f : Pair) → e.lo ≡ f.lo → e.hi ≡ f.hi → e ≡ f
-unfolding made
-pair_same e f h k =
-    let R : ℕ → Type 0 = λ y. (p : ordered-type e.lo y) → made e.lo e.hi e.ordered ≡ made e.lo y p in
-    let Q : ℕ → Type 0 = λ x. (p : ordered-type x f.hi) → made e.lo e.hi e.ordered ≡ made x f.hi p in
-    subst Q h (subst R k (λ p. ap (λ (z : ordered-type e.lo e.hi). made e.lo e.hi z) (ordered_once e.lo e.hi e.ordered p))) f.ordered

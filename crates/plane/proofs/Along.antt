@@ -4,7 +4,6 @@ use Rattle.std.proofs.lemmas.Int.{ints}
 use Rattle.std.proofs.Math.IntN.{*ℤ_comm}
 use Rattle.plane.specs.declared.coordinates.Point.{Point}
 use Rattle.plane.specs.Geometry.{area, scalar, AreOpposite, LiesBetween}
-use Rattle.plane.specs.Ranges.{IsInRange}
 use Rattle.plane.proofs.Determinant.{mul_difference, swap_middle, zero_factor}
 use Rattle.plane.proofs.Signs.{negative_or, opposite_steps, negative_of_opposite, products_agree, positive_positive, positive_negative, negative_positive, negative_negative, zero_left, zero_right, difference_zero}
 use Rattle.plane.proofs.Area.{area_cycle, area_swap, area_back, scalar_swap}
@@ -208,6 +207,10 @@ other_side_right p q r b h left =
       | inl o ↦ turned_back ux rx (bx *ℤ ry -ℤ by *ℤ rx) (bx *ℤ uy -ℤ by *ℤ ux) o (scale_across ux uy rx ry bx by line) left
       | inr o ↦ turned_back uy ry (bx *ℤ ry -ℤ by *ℤ rx) (bx *ℤ uy -ℤ by *ℤ ux) o.2 (scale_upward ux uy rx ry bx by line) left
     ]
+
+-- a number is between two others, or equals one
+abbrev pub IsInRange : (a b c : ℤ) → Type 0
+IsInRange a b c = ((b ≤ℤ a) × (a ≤ℤ c)) ⊎ ((c ≤ℤ a) × (a ≤ℤ b))
 
 in_range_of_product : (p q r : ℤ) → ((q -ℤ p) *ℤ (r -ℤ p)) ≤ℤ pos 0 → IsInRange p q r
 in_range_of_product p q r h = elim (negative_or (q -ℤ p)) [

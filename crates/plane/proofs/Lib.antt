@@ -6,3 +6,8 @@ pub mod Area
 pub mod Along
 pub mod Outermost
 pub mod Quadruple
+pub mod Pairs
+pub mod Rising
+pub mod Enclosed
+pub mod Boxed
+pub mod Furthest

@@ -1,17 +1,18 @@
 -- Why a walk over all points, twice, finds the next point on the border.
-use Rattle.std.proofs.Common.{◌≡◌, ◌≢◌, ◌<◌, ◌≤◌, ℕ, ◌+◌, List, length, ℤ, pos, ◌<ℤ◌, ◌≤ℤ◌, neg_ℤ, ◌⊎◌, inl, inr, arith, sym, ◌∙◌, subst, refl, min, max, ◌↔◌}
+use Rattle.std.proofs.Common.{◌≡◌, ◌≢◌, ◌<◌, ◌≤◌, ℕ, ◌+◌, List, length, ℤ, pos, ◌<ℤ◌, ◌≤ℤ◌, neg_ℤ, ◌⊎◌, inl, inr, arith, sym, ◌∙◌, subst, refl, min, max, ◌↔◌, Option, Some, None, Bool, true, false, not, true≢false, IsTrue, rules}
 use Rattle.std.proofs.lemmas.Int.{ints}
 use Rattle.plane.specs.declared.coordinates.Point.{Point}
 use Rattle.plane.specs.declared.coordinates.Turn.{Turn}
 use Rattle.plane.specs.declared.coordinates.Turn.TheVariants.{Left, Straight, Right}
 use Rattle.plane.specs.Geometry.{point, LiesBetween, area, scalar, orientation, IsBetween, IsClear, IsBorderPair, IsInner}
 use Rattle.plane.specs.Accepted.{AreAccepted, AreApart}
-use Rattle.plane.specs.Hull.{IsOnSide, IsBeyond, IsBorderStep, IsFurther}
+use Rattle.plane.specs.Hull.{IsOnSide, IsBeyond, IsBorderStep, IsStepOrNone, IsFurther}
 use Rattle.plane.proofs.Area.{area_swap, area_back}
 use Rattle.plane.proofs.Along.{no_area, between_swap, other_side, other_side_right, one_between, between_beyond}
 use Rattle.plane.proofs.Line.{collinear}
 use Rattle.plane.proofs.Signs.{negative_or}
 use Rattle.std.proofs.lemmas.Bool.{cases_lt}
+use Rattle.std.specs.Option.{is_some}
 
 pub points_differ : (S : List Point) (i j : ℕ) → AreApart S → i < length S → j < length S → i ≢ j → point S i ≢ point S j
 points_differ S i j apart hi hj ne e = elim (split i j ne) [ inl h ↦ apart i j h hj e | inr h ↦ apart j i h hi (sym e) ]
@@ -200,3 +201,10 @@ not_inner_left S v w step inner = inner w step.within step.apart (border_of_left
 
 pub not_inner_right : (S : List Point) (v w : ℕ) → IsBorderStep S Right v w → ¬ IsInner S v
 not_inner_right S v w step inner = inner w step.within step.apart (border_of_right S v w step)
+
+-- where no step begins at a point counterclockwise, it is inner exactly where none does clockwise
+pub inner_by_last : (S : List Point) (v : ℕ) (last : Option ℕ) (b : Bool) → ((w : ℕ) → ¬ IsBorderStep S Left v w) → IsStepOrNone S Right v last → is_some last ≡ not b → IsTrue b ↔ IsInner S v
+inner_by_last S v None true left right e = (λ _. inner_by_steps S v left right, λ _. search rules)
+inner_by_last S v None false left right e = absurd (true≢false (sym e))
+inner_by_last S v (Some w) true left right e = absurd (true≢false e)
+inner_by_last S v (Some w) false left right e = (λ t. absurd (search rules), λ inner. absurd (not_inner_right S v w right inner))

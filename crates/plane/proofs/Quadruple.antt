@@ -1,10 +1,9 @@
 -- Four points: how their areas depend on each other, and that the ranges of crossing segments meet.
-use Rattle.std.proofs.Common.{◌≡◌, ℤ, pos, ◌+ℤ◌, ◌-ℤ◌, ◌*ℤ◌, neg_ℤ, ◌<ℤ◌, ◌≤ℤ◌, ◌⊎◌, inl, inr, Bool, true, false, IsTrue, IsFalse, rules, arith, sym, ◌∙◌, ap}
+use Rattle.std.proofs.Common.{◌≡◌, ℤ, pos, ◌+ℤ◌, ◌-ℤ◌, ◌*ℤ◌, neg_ℤ, ◌<ℤ◌, ◌≤ℤ◌, ◌⊎◌, inl, inr, arith, sym, ◌∙◌, ap}
 use Rattle.std.proofs.lemmas.Int.{ints}
 use Rattle.std.proofs.Math.IntN.{*ℤ_comm}
 use Rattle.plane.specs.declared.coordinates.Point.{Point}
 use Rattle.plane.specs.Geometry.{area, AreOpposite, DoCross}
-use Rattle.plane.specs.Ranges.{AreBelow}
 use Rattle.plane.proofs.Determinant.{mul_difference, mul_differences, mul_add, mul_neg, mul_assoc, swap_middle}
 use Rattle.plane.proofs.Signs.{negative_or, positive_positive, positive_negative, negative_positive, negative_negative, zero_left}
 
@@ -73,7 +72,7 @@ dependence a b c d =
 flat : (m a b c d : ℤ) → d -ℤ c ≡ a -ℤ b → m *ℤ d -ℤ m *ℤ c ≡ m *ℤ a -ℤ m *ℤ b
 flat m a b c d e = sym (mul_difference m d c) ∙ ap (λ x. m *ℤ x) e ∙ mul_difference m a b
 
-difference_times : (p m a : ℤ) → (p -ℤ m) *ℤ a ≡ p *ℤ a -ℤ m *ℤ a
+pub difference_times : (p m a : ℤ) → (p -ℤ m) *ℤ a ≡ p *ℤ a -ℤ m *ℤ a
 difference_times p m a = *ℤ_comm (p -ℤ m) a ∙ mul_difference a p m ∙ ap (λ x. x -ℤ a *ℤ m) (*ℤ_comm a p) ∙ ap (λ x. p *ℤ a -ℤ x) (*ℤ_comm a m)
 
 not_below_zero : (a b : ℤ) → a ≤ℤ pos 0 → pos 0 <ℤ b → (a *ℤ b) ≤ℤ pos 0
@@ -140,6 +139,10 @@ not_apart_upward m a b c d first second la lb lc ld =
     (opposite_flipped _ _ _ _ (area_flipped a b c) (area_flipped a b d) first)
     (opposite_flipped _ _ _ _ (area_flipped c d a) (area_flipped c d b) second) la lb lc ld
 
+-- both first numbers are below both last ones
+abbrev pub AreBelow : (a b c d : ℤ) → Type 0
+AreBelow a b c d = (a <ℤ c) × (a <ℤ d) × (b <ℤ c) × (b <ℤ d)
+
 bound : (a b c d : ℤ) → AreBelow a b c d → (m : ℤ) × (a ≤ℤ m) × (b ≤ℤ m) × (m <ℤ c) × (m <ℤ d)
 bound a b c d (ac, ad, bc, bd) = elim (negative_or (a -ℤ b)) [
   | inl h ↦ (b, omega (arith, ints), omega (arith, ints), bc, bd)
@@ -153,7 +156,3 @@ not_below_across a b c d cross (inr h) = let (m, la, lb, lc, ld) = bound c.x d.x
 pub not_below_upward : (a b c d : Point) → DoCross a b c d → AreBelow a.y b.y c.y d.y ⊎ AreBelow c.y d.y a.y b.y → ⊥
 not_below_upward a b c d cross (inl h) = let (m, la, lb, lc, ld) = bound a.y b.y c.y d.y h in not_apart_upward m a b c d cross.0 cross.1 la lb lc ld
 not_below_upward a b c d cross (inr h) = let (m, la, lb, lc, ld) = bound c.y d.y a.y b.y h in not_apart_upward m c d a b cross.1 cross.0 la lb lc ld
-
-pub true_of_not_false : (b : Bool) → ¬ IsFalse b → IsTrue b
-true_of_not_false true h = search rules
-true_of_not_false false h = absurd (h (search rules))

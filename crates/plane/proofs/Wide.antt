@@ -1,11 +1,10 @@
 -- Sums and differences of 128-bit numbers of which neither comes near the type's end.
-use Rattle.std.proofs.Common.{◌≡◌, ℤ, ◌+ℤ◌, ◌-ℤ◌, ◌*ℤ◌, ◌<◌, ◌^◌, unsigned_abs, FitsSigned, to_z, of_z, arith, ap, ◌∙◌, ◌⊎◌, ◌↔◌, Bool, IsTrue}
+use Rattle.std.proofs.Common.{◌≡◌, ℤ, ◌+ℤ◌, ◌-ℤ◌, ◌*ℤ◌, ◌<◌, ◌^◌, unsigned_abs, FitsSigned, to_z, of_z, arith, ap, ◌∙◌, ◌↔◌, Bool, IsTrue}
 use Rattle.plane.specs.Geometry.{area, scalar, AreOpposite}
 use Rattle.plane.specs.declared.coordinates.Point.{Point}
 use Rattle.std.proofs.lemmas.Int.{ints, to_z-of_z}
 use mir.Syntax.{w64, w128}
 use mir.Val.{SFits}
-use Rattle.plane.specs.Ranges.{AreBelow, IsInRange}
 
 pub difference_fits : (a b : ℤ) → unsigned_abs a < 2 ^ 126 → unsigned_abs b < 2 ^ 126 → FitsSigned w128 (to_z w128 (of_z w128 a) -ℤ to_z w128 (of_z w128 b))
 difference_fits a b ha hb = omega (arith, ints)
@@ -38,15 +37,6 @@ pub scalar_is : (p q r : Point) (m n : ℤ) → m ≡ (q.x -ℤ p.x) *ℤ (r.x -
 unfolding scalar
 scalar_is p q r m n hm hn = ap (λ x. x +ℤ n) hm ∙ ap (λ y. (q.x -ℤ p.x) *ℤ (r.x -ℤ p.x) +ℤ y) hn
 
--- what a call shows of 64-bit numbers, said of the numbers themselves
-pub plain_below : (a b c d : ℤ) → SFits w64 a → SFits w64 b → SFits w64 c → SFits w64 d
-    → AreBelow (to_z w64 (of_z w64 a)) (to_z w64 (of_z w64 b)) (to_z w64 (of_z w64 c)) (to_z w64 (of_z w64 d)) ⊎ AreBelow (to_z w64 (of_z w64 c)) (to_z w64 (of_z w64 d)) (to_z w64 (of_z w64 a)) (to_z w64 (of_z w64 b))
-    → AreBelow a b c d ⊎ AreBelow c d a b
-plain_below a b c d fa fb fc fd h = rw (to_z-of_z w64 a fa, to_z-of_z w64 b fb, to_z-of_z w64 c fc, to_z-of_z w64 d fd) at h
-
--- the same of 128-bit numbers and their signs
+-- what a call shows of 128-bit numbers and their signs, said of the numbers themselves
 pub plain_opposite : (r : Bool) (y z m n : ℤ) → SFits w128 y → SFits w128 z → y ≡ m → z ≡ n → (IsTrue r ↔ AreOpposite (to_z w128 (of_z w128 y)) (to_z w128 (of_z w128 z))) → IsTrue r ↔ AreOpposite m n
 plain_opposite r y z m n fy fz ey ez h = rw (← ey, ← ez) (rw (to_z-of_z w128 y fy, to_z-of_z w128 z fz) at h)
-
-pub plain_range : (a b c : ℤ) → SFits w64 a → SFits w64 b → SFits w64 c → IsInRange a b c → IsInRange (to_z w64 (of_z w64 a)) (to_z w64 (of_z w64 b)) (to_z w64 (of_z w64 c))
-plain_range a b c fa fb fc h = rw (to_z-of_z w64 a fa, to_z-of_z w64 b fb, to_z-of_z w64 c fc) h

@@ -1,5 +1,6 @@
 -- Which lists of points are accepted, and the first fault of those that aren't. (This project's own limits.)
 use Rattle.std.specs.Prelude.{◌≡◌, ◌≢◌, ℕ, ◌<◌, ◌≤◌, List, length, pos, unsigned_abs}
+use Rattle.std.specs.List.{All}
 use Rattle.plane.specs.declared.coordinates.Point.{Point}
 use Rattle.plane.specs.declared.coordinates.TheConstants.{COORDINATE_LIMIT, FEWEST_POINTS, MOST_POINTS}
 use Rattle.plane.specs.declared.coordinates.BadPoints.{BadPoints}
@@ -28,6 +29,10 @@ AreOnOneLine S = (p q r : ℕ) → p < length S → q < length S → r < length 
 -- some three points aren't in line
 abbrev pub AreSpread : List Point → Type 0
 AreSpread S = (p : ℕ) × (q : ℕ) × (r : ℕ) × (p < length S) × (q < length S) × (r < length S) × (orientation S p q r ≢ pos 0)
+
+-- each number is the index of a point
+abbrev pub AreIndices : List Point → List ℕ → Type 0
+AreIndices S = All (λ i. i < length S)
 
 -- an accepted point set
 pub record AreAccepted (S : List Point) : Type 0 where

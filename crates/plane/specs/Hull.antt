@@ -33,3 +33,11 @@ IsStepOrNone S side v (Some w) = IsBorderStep S side v w
 -- seen from v, r is further out than b on the way to the border: strictly beyond the line, or nearer on it
 abbrev pub IsFurther : List Point → Turn → (v b r : ℕ) → Type 0
 IsFurther S side v b r = IsBeyond side (orientation S v b r) ⊎ IsBetween S r v b
+
+-- v is strictly inside the triangle a b c, whose corners stand counterclockwise
+abbrev pub IsInTriangle : List Point → (v a b c : ℕ) → Type 0
+IsInTriangle S v a b c = (pos 0 <ℤ orientation S a b v) × (pos 0 <ℤ orientation S b c v) × (pos 0 <ℤ orientation S c a v)
+
+-- no border step begins at v, on neither side
+abbrev pub HasNoStep : List Point → ℕ → Type 0
+HasNoStep S v = (side : Turn) (w : ℕ) → ¬ IsBorderStep S side v w

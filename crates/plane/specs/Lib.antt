@@ -3,4 +3,5 @@ pub mod Geometry
 pub mod Accepted
 pub mod Making
 pub mod Hull
-pub mod Ranges
+pub mod Boxes
+pub mod Guides

@@ -4,6 +4,7 @@ ghost use Rattle.plane.specs.Geometry.{point};
 ghost use Rattle.plane.specs.Accepted.{AreAccepted, IsFault, IsNear};
 
 use crate::coordinates::{BadPoints, Point};
+use crate::guides::{GUIDE_COUNT, guides_of};
 use crate::making::first_fault;
 use std::marker::Model;
 
@@ -12,18 +13,19 @@ use std::marker::Model;
 #[derive(Drop)]
 pub struct Points {
     list: Vec<Point>,
+    guides: [u32; GUIDE_COUNT],
 }
 
 impl Model for Points {
     ghost use Rattle.std.specs.Prelude.{List};
     ghost use Rattle.plane.specs.declared.coordinates.Point.{Point};
-    ghost use Rattle.plane.specs.Accepted.{AreAccepted};
+    ghost use Rattle.plane.specs.Accepted.{AreAccepted, AreIndices};
 
     ghost Value = { List Point };
 
     ghost view = { λ a. a.list.items };
 
-    ghost invariant = { λ a. AreAccepted a.list.items };
+    ghost invariant = { λ a. AreAccepted a.list.items × AreIndices a.list.items a.guides };
 }
 
 impl Points {
@@ -37,7 +39,10 @@ impl Points {
     {
         match first_fault(list.as_slice()) {
             Some(fault) => Err(fault),
-            None => Ok(Points { list }),
+            None => {
+                let guides = guides_of(list.as_slice());
+                Ok(Points { list, guides })
+            }
         }
     }
 
@@ -56,5 +61,14 @@ impl Points {
         ensures near { IsNear result }
     {
         self.list[i as usize]
+    }
+
+    // The index of a guide point.
+    pub(crate) fn guide(&self, i: usize) -> u32
+        requires { i < GUIDE_COUNT }
+        ensures within { result < length self.now }
+        ensures accepted { AreAccepted self.now }
+    {
+        self.guides[i]
     }
 }

@@ -1,10 +1,12 @@
-// The next points on the hull's border, found without memory in two walks over all points.
+// The next points on the hull's border, found without memory in at most two walks over all points, and in none from most
+// inner points.
 ghost use Rattle.std.specs.Prelude.{◌≡◌, ◌≢◌, ◌<◌, ◌↔◌, ℕ, ℤ, length, IsTrue};
 ghost use Rattle.plane.specs.Geometry.{orientation, IsBetween, IsClear, IsInner, IsTurn};
-ghost use Rattle.plane.specs.Hull.{IsOnSide, IsBeyond, IsBorderStep, IsStepOrNone, IsFurther};
+ghost use Rattle.plane.specs.Hull.{IsOnSide, IsBeyond, IsBorderStep, IsStepOrNone, IsFurther, IsInTriangle, HasNoStep};
 
 use crate::accepted::Points;
 use crate::coordinates::Turn;
+use crate::guides::GUIDE_COUNT;
 use crate::segment::Pair;
 
 // Whether a turn leads beyond the line that has all points on this side.
@@ -21,7 +23,7 @@ fn is_beyond(turn: Turn, side: Turn) -> bool
 
 impl Points {
     /// The next point on the border after `v`, counterclockwise, or none where `v` is an inner point: the pair is clear,
-    /// and no point is right of the line from `v` to it. It takes two walks over all points. (Textbook.)
+    /// and no point is right of the line from `v` to it. It takes at most two walks over all points. (Textbook.)
     pub fn border_after(&self, v: u32) -> Option<u32>
         requires { v < length self.now }
         ensures { IsStepOrNone self.now Turn.Left v result }
@@ -30,7 +32,7 @@ impl Points {
     }
 
     /// The next point on the border before `v`, counterclockwise, or none where `v` is an inner point: the pair is clear,
-    /// and no point is left of the line from `v` to it. It takes two walks over all points. (Textbook.)
+    /// and no point is left of the line from `v` to it. It takes at most two walks over all points. (Textbook.)
     pub fn border_before(&self, v: u32) -> Option<u32>
         requires { v < length self.now }
         ensures { IsStepOrNone self.now Turn.Right v result }
@@ -43,9 +45,9 @@ impl Points {
         requires { v < length self.now }
         ensures { IsTrue result ↔ IsInner self.now v }
     {
-        match (self.border_after(v), self.border_before(v)) {
-            (None, None) => true,
-            _ => false,
+        match self.border_after(v) {
+            Some(_) => false,
+            None => self.border_before(v).is_none(),
         }
     }
 
@@ -55,14 +57,47 @@ impl Points {
         requires bent { side ≢ Turn.Straight }
         ensures { IsStepOrNone self.now side v result }
     {
+        if self.is_enclosed(v) {
+            return None;
+        }
         let start = self.other_than(v);
         let first = self.outermost(v, start, side);
+        if self.is_step(side, v, first) {
+            return Some(first);
+        }
         let best = self.outermost(v, first, side);
         if self.is_step(side, v, best) {
             Some(best)
         } else {
             None
         }
+    }
+
+    // Whether v is strictly inside a triangle of guide points. The triangles share the first guide point, and the side at
+    // which most of them fail is tested first.
+    fn is_enclosed(&self, v: u32) -> bool
+        requires { v < length self.now }
+        ensures { IsTrue result → HasNoStep self.now v }
+    {
+        for i in 1..GUIDE_COUNT - 1 {
+            if self.is_in_triangle(v, self.guide(i + 1), self.guide(0), self.guide(i)) {
+                return true;
+            }
+        }
+        false
+    }
+
+    // Whether v is strictly left of each side of the triangle.
+    fn is_in_triangle(&self, v: u32, a: u32, b: u32, c: u32) -> bool
+        requires v_in { v < length self.now }
+        requires a_in { a < length self.now }
+        requires b_in { b < length self.now }
+        requires c_in { c < length self.now }
+        ensures { IsTrue result ↔ IsInTriangle self.now v a b c }
+    {
+        self.orient(a, b, v) == Turn::Left
+            && self.orient(b, c, v) == Turn::Left
+            && self.orient(c, a, v) == Turn::Left
     }
 
     fn other_than(&self, v: u32) -> u32

@@ -1,9 +1,10 @@
-// The numbers that the tests are made of, on coordinates. Nothing else computes with coordinates.
-ghost use Rattle.std.specs.Prelude.{◌≡◌, ◌*◌, ◌≤◌, ◌↔◌, ◌-ℤ◌, ◌*ℤ◌, ◌⊎◌, unsigned_abs, IsTrue, IsFalse};
+// The numbers that the tests are made of, on coordinates. Besides, only the choice of guide points computes with
+// coordinates.
+ghost use Rattle.std.specs.Prelude.{◌≡◌, ◌*◌, ◌≤◌, ◌↔◌, ◌-ℤ◌, ◌*ℤ◌, unsigned_abs, IsTrue};
 ghost use Rattle.plane.specs.Geometry.{area, scalar, IsTurn, AreOpposite, LiesBetween, DoCross};
 ghost use Rattle.plane.specs.Accepted.{IsNear};
-ghost use Rattle.plane.specs.Ranges.{IsInRange, AreBelow};
 
+use crate::bounding_box::BoundingBox;
 use crate::coordinates::{COORDINATE_LIMIT, Point, Turn};
 
 // The step from one coordinate to another.
@@ -77,30 +78,17 @@ pub fn lies_between(p: Point, q: Point, r: Point) -> bool
     requires near_r { IsNear r }
     ensures { IsTrue result ↔ LiesBetween p q r }
 {
-    could_lie_between(p, q, r) && is_found_between(p, q, r)
+    BoundingBox::of(q, r).has(p) && is_found_between(p, q, r)
 }
 
-fn is_found_between(p: Point, q: Point, r: Point) -> bool
+/// Whether a point lies strictly between two others, by areas alone.
+pub fn is_found_between(p: Point, q: Point, r: Point) -> bool
     requires near_p { IsNear p }
     requires near_q { IsNear q }
     requires near_r { IsNear r }
     ensures { IsTrue result ↔ LiesBetween p q r }
 {
     area_of(q, p, r) == 0 && scalar_of(p, q, r) < 0
-}
-
-// Whether both coordinates of a point are in the ranges of the other two.
-fn could_lie_between(p: Point, q: Point, r: Point) -> bool
-    ensures { LiesBetween p q r → IsTrue result }
-{
-    is_in_range(p.x, q.x, r.x) && is_in_range(p.y, q.y, r.y)
-}
-
-// Whether a number is between two others, or equals one.
-fn is_in_range(a: i64, b: i64, c: i64) -> bool
-    ensures { IsTrue result ↔ IsInRange a b c }
-{
-    (b <= a && a <= c) || (c <= a && a <= b)
 }
 
 /// Whether the segments from `a` to `b` and from `c` to `d` cross. Comparisons settle most cases without an area.
@@ -125,23 +113,9 @@ fn parts(p: Point, q: Point, r: Point, s: Point) -> bool
     are_opposite(area_of(p, q, r), area_of(p, q, s))
 }
 
-// Whether the ranges of the coordinates of two segments meet.
+// Whether the boxes round two segments meet.
 fn could_cross(a: Point, b: Point, c: Point, d: Point) -> bool
     ensures { DoCross a b c d → IsTrue result }
 {
-    ranges_meet(a.x, b.x, c.x, d.x) && ranges_meet(a.y, b.y, c.y, d.y)
-}
-
-// Whether no two of the four numbers are below the other two.
-fn ranges_meet(a: i64, b: i64, c: i64, d: i64) -> bool
-    ensures { IsFalse result → AreBelow a b c d ⊎ AreBelow c d a b }
-{
-    !are_below(a, b, c, d) && !are_below(c, d, a, b)
-}
-
-// Whether both first numbers are below both last ones.
-fn are_below(a: i64, b: i64, c: i64, d: i64) -> bool
-    ensures { IsTrue result → AreBelow a b c d }
-{
-    a < c && a < d && b < c && b < d
+    BoundingBox::of(a, b).meets(&BoundingBox::of(c, d))
 }

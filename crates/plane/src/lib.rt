@@ -3,7 +3,9 @@
 #![tactic(auto)]
 
 mod accepted;
+mod bounding_box;
 mod coordinates;
+mod guides;
 mod hull;
 mod kernel;
 mod making;

@@ -52,8 +52,32 @@ fn first_far(list: &[Point]) -> Option<u32>
     None
 }
 
-// The first two equal points.
+// The first two equal points. They are looked for only where there are some.
 fn first_same_place(list: &[Point]) -> Option<(u32, u32)>
+    requires { length list.now ≤ MOST_POINTS }
+    ensures { IsFirstPairOrNone (λ k l. point list.now k ≡ point list.now l) (length list.now) result }
+{
+    if are_apart(list) {
+        None
+    } else {
+        first_equal_pair(list)
+    }
+}
+
+// Whether no two points are equal: no two that are neighbours in order.
+fn are_apart(list: &[Point]) -> bool
+    requires { length list.now ≤ MOST_POINTS }
+    ensures { IsTrue result ↔ AreApart list.now }
+{
+    let mut room = [Point { x: 0, y: 0 }; MOST_POINTS];
+    let sorted = &mut room[..list.len()];
+    sorted.copy_from_slice(list);
+    sorted.sort_unstable();
+    sorted.is_sorted_by(|p, q| p < q)
+}
+
+// The first two equal points, by a look at every pair.
+fn first_equal_pair(list: &[Point]) -> Option<(u32, u32)>
     requires { length list.now < 2 ^ 32 }
     ensures { IsFirstPairOrNone (λ k l. point list.now k ≡ point list.now l) (length list.now) result }
 {

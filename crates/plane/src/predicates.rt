@@ -4,8 +4,9 @@ ghost use Rattle.plane.specs.First.{IsLeastOrNone};
 ghost use Rattle.plane.specs.Geometry.{orientation, IsTurn, IsBetween, AreCrossing, AreOpposite, IsClear, HasAllLeft, IsBorderPair, IsInner, IsInNeed};
 
 use crate::accepted::Points;
+use crate::bounding_box::BoundingBox;
 use crate::coordinates::Turn;
-use crate::kernel::{area_of, do_cross, lies_between, turn_of};
+use crate::kernel::{area_of, do_cross, is_found_between, lies_between, turn_of};
 use crate::segment::Pair;
 
 impl Points {
@@ -69,8 +70,11 @@ impl Points {
         requires { e.hi < length self.now }
         ensures { IsLeastOrNone (λ k. IsBetween self.now k e.lo e.hi) (length self.now) result }
     {
+        let (from, to) = (self.at(e.lo()), self.at(e.hi()));
+        let bounds = BoundingBox::of(from, to);
         for k in 0..self.len() {
-            if self.between(k, e.lo(), e.hi()) {
+            let p = self.at(k);
+            if bounds.has(p) && is_found_between(p, from, to) {
                 return Some(k);
             }
         }

@@ -22,7 +22,8 @@ use Rattle.star.proofs.Turning.{Up, up, down}
 use Rattle.star.proofs.Changes.{gains_neighbour, gains_mark, marks_neighbour, keeps_mark}
 use Rattle.subdivision.specs.State.{star_at, AreStarsOf}
 use Rattle.subdivision.specs.Joining.{Links, LinksEnds}
-use Rattle.subdivision.proofs.Lists.{pair_same, Has, has_of, contains_of, has_append, append_has}
+use Rattle.plane.proofs.Pairs.{pair_same}
+use Rattle.subdivision.proofs.Lists.{Has, has_of, contains_of, has_append, append_has}
 use Rattle.subdivision.proofs.Members.{joined, joins_of, marked_neighbour}
 
 same_list_neighbour : (old mid : Seen) → mid.list ≡ old.list → (u : ℕ) → IsNeighbour mid u ↔ IsNeighbour old u

@@ -4,24 +4,10 @@ use Rattle.std.specs.List.{Contains}
 use Rattle.std.proofs.lemmas.Bool.{cases_lt}
 use Rattle.std.proofs.lemmas.Bool.{cond_both}
 use Rattle.std.proofs.lemmas.List.Kept.{AllPairs-cons, AllPairs-filter}
-use Rattle.std.proofs.Math.Bridge.{le_prop}
-use Rattle.plane.specs.declared.segment.Pair.{Pair, ordered-type}
+use Rattle.plane.specs.declared.segment.Pair.{Pair}
+use Rattle.plane.proofs.Pairs.{pair_same}
 use Rattle.subdivision.specs.Ascending.{ComesFirst, IsAscending}
 use Rattle.subdivision.specs.Every.{upward, row, rows, every_pair}
-
-ordered_once : (a b : ℕ) → IsProp (ordered-type a b)
-ordered_once a b = le_prop
-
-made : (a b : ℕ) → ordered-type a b → Pair
-made a b o = record { lo = a; hi = b; ordered = o }
-
--- two segments with the same ends are one
-pub pair_same : (e f : Pair) → e.lo ≡ f.lo → e.hi ≡ f.hi → e ≡ f
-unfolding made
-pair_same e f h k =
-    let R : ℕ → Type 0 = λ y. (p : ordered-type e.lo y) → made e.lo e.hi e.ordered ≡ made e.lo y p in
-    let Q : ℕ → Type 0 = λ x. (p : ordered-type x f.hi) → made e.lo e.hi e.ordered ≡ made x f.hi p in
-    subst Q h (subst R k (λ p. ap (λ (z : ordered-type e.lo e.hi). made e.lo e.hi z) (ordered_once e.lo e.hi e.ordered p))) f.ordered
 
 -- e is a member, by recursion
 abbrev pub Has : Pair → List Pair → Type 0

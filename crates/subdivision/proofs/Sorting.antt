@@ -22,7 +22,8 @@ use Rattle.star.proofs.Turning.{not_both}
 use Rattle.subdivision.specs.Ascending.{ComesFirst, IsAscending}
 use Rattle.subdivision.specs.State.{star_at, has, keeps, AreAgreed}
 use Rattle.subdivision.specs.Listing.{picks, picked_of, IsTidy, AreTidy, HasRows, IsSortedFrom}
-use Rattle.subdivision.proofs.Lists.{pair_same, has_of, contains_of, one_list, rises_of, chosen_ascending}
+use Rattle.plane.proofs.Pairs.{pair_same}
+use Rattle.subdivision.proofs.Lists.{has_of, contains_of, one_list, rises_of, chosen_ascending}
 use Rattle.subdivision.proofs.Members.{neighbour_of, mark_of, marked_neighbour, chosen, choose}
 
 -- what the comparison of two segments says

@@ -3,4 +3,4 @@ use Rattle.plane.specs.Geometry.{IsBetween}
 use Rattle.plane.proofs.accepted.Points.first_between.Given as goal
 
 abbrev pub invariant-loop-k : goal.invariant-loop-k
-invariant-loop-k l = (k : ℕ) → k < l.k → ¬ IsBetween l.self k l.e.lo l.e.hi
+invariant-loop-k l = (k : ℕ) → k < l.k → ¬ IsBetween l.self k l.fn.e.lo l.fn.e.hi

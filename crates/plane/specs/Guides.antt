@@ -1,0 +1,21 @@
+-- Guide points: points that are furthest out in a direction.
+use Rattle.std.specs.Prelude.{ℕ, ◌<◌, List, length, ℤ, ◌+ℤ◌, ◌-ℤ◌, neg_ℤ, ◌≤ℤ◌}
+use Rattle.plane.specs.declared.coordinates.Point.{Point}
+use Rattle.plane.specs.declared.guides.Direction.{Direction}
+use Rattle.plane.specs.declared.guides.Direction.TheVariants.{East, NorthEast, North, NorthWest, West, SouthWest, South, SouthEast}
+use Rattle.plane.specs.Geometry.{point}
+
+-- how far out a point is in a direction
+abbrev pub reach_of : Direction → Point → ℤ
+reach_of East p = p.x
+reach_of NorthEast p = p.x +ℤ p.y
+reach_of North p = p.y
+reach_of NorthWest p = p.y -ℤ p.x
+reach_of West p = neg_ℤ p.x
+reach_of SouthWest p = neg_ℤ (p.x +ℤ p.y)
+reach_of South p = neg_ℤ p.y
+reach_of SouthEast p = p.x -ℤ p.y
+
+-- no point is further out
+abbrev pub IsFurthest : List Point → Direction → ℕ → Type 0
+IsFurthest S d i = (k : ℕ) → k < length S → reach_of d (point S k) ≤ℤ reach_of d (point S i)

@@ -7,7 +7,7 @@ use Rattle.plane.specs.declared.coordinates.Turn.{Turn}
 use Rattle.plane.specs.declared.coordinates.Turn.TheVariants.{Left, Straight, Right}
 use Rattle.plane.specs.Geometry.{point, area}
 use Rattle.plane.specs.Accepted.{AreAccepted}
-use Rattle.plane.specs.Hull.{IsOnSide, IsInTriangle, HasNoStep}
+use Rattle.plane.specs.Hull.{IsOnSide, IsStrictlyInTriangle, HasNoStep}
 use Rattle.plane.proofs.Determinant.{mul_add, mul_difference, mul_assoc, mul_neg, swap_middle}
 use Rattle.plane.proofs.Signs.{negative_or, positive_positive, zero_right}
 use Rattle.plane.proofs.Area.{area_cycle}
@@ -78,7 +78,7 @@ corner_on_line side v w a b c hc ha hb sa sb sc =
     (let e = area_cycle v b c in omega (arith, ints)) (let e = area_cycle v c a in omega (arith, ints)) (let e = area_cycle v a b in omega (arith, ints))
     sa sb sc (areas_cancel v w a b c)
 
-pub no_step_inside : (S : List Point) (v a b c : ℕ) → AreAccepted S → v < length S → a < length S → b < length S → c < length S → IsInTriangle S v a b c → HasNoStep S v
+pub no_step_inside : (S : List Point) (v a b c : ℕ) → AreAccepted S → v < length S → a < length S → b < length S → c < length S → IsStrictlyInTriangle S v a b c → HasNoStep S v
 no_step_inside S v a b c accepted hv ha hb hc inside side w step =
     let at_a = corner_on_line side (point S v) (point S w) (point S a) (point S b) (point S c) inside.0 inside.1 inside.2 (step.all a ha) (step.all b hb) (step.all c hc) in
     let at_b = corner_on_line side (point S v) (point S w) (point S b) (point S c) (point S a) inside.1 inside.2 inside.0 (step.all b hb) (step.all c hc) (step.all a ha) in

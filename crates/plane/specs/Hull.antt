@@ -35,8 +35,8 @@ abbrev pub IsFurther : List Point → Turn → (v b r : ℕ) → Type 0
 IsFurther S side v b r = IsBeyond side (orientation S v b r) ⊎ IsBetween S r v b
 
 -- v is strictly inside the triangle a b c, whose corners stand counterclockwise
-abbrev pub IsInTriangle : List Point → (v a b c : ℕ) → Type 0
-IsInTriangle S v a b c = (pos 0 <ℤ orientation S a b v) × (pos 0 <ℤ orientation S b c v) × (pos 0 <ℤ orientation S c a v)
+abbrev pub IsStrictlyInTriangle : List Point → (v a b c : ℕ) → Type 0
+IsStrictlyInTriangle S v a b c = (pos 0 <ℤ orientation S a b v) × (pos 0 <ℤ orientation S b c v) × (pos 0 <ℤ orientation S c a v)
 
 -- no border step begins at v, on neither side
 abbrev pub HasNoStep : List Point → ℕ → Type 0

@@ -2,7 +2,7 @@
 // inner points.
 ghost use Rattle.std.specs.Prelude.{◌≡◌, ◌≢◌, ◌<◌, ◌↔◌, ℕ, ℤ, length, IsTrue};
 ghost use Rattle.plane.specs.Geometry.{orientation, IsBetween, IsClear, IsInner, IsTurn};
-ghost use Rattle.plane.specs.Hull.{IsOnSide, IsBeyond, IsBorderStep, IsStepOrNone, IsFurther, IsInTriangle, HasNoStep};
+ghost use Rattle.plane.specs.Hull.{IsOnSide, IsBeyond, IsBorderStep, IsStepOrNone, IsFurther, IsStrictlyInTriangle, HasNoStep};
 
 use crate::accepted::Points;
 use crate::coordinates::Turn;
@@ -93,7 +93,7 @@ impl Points {
         requires a_in { a < length self.now }
         requires b_in { b < length self.now }
         requires c_in { c < length self.now }
-        ensures { IsTrue result ↔ IsInTriangle self.now v a b c }
+        ensures { IsTrue result ↔ IsStrictlyInTriangle self.now v a b c }
     {
         self.orient(a, b, v) == Turn::Left
             && self.orient(b, c, v) == Turn::Left

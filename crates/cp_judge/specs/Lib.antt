@@ -1,2 +1,4 @@
 pub mod Violation
+pub mod Ascending
+pub mod Spans
 pub mod Judgement

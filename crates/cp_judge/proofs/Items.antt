@@ -1,5 +1,5 @@
 -- Pairs at positions of a list, and the first violations among them.
-use Rattle.std.proofs.Common.{◌≡◌, ◌<◌, ⊎_elim, ℕ, Bool, true, false, List, length, slice_index_or, sym, ◌∙◌, subst, ap, arith, ℤ, pos, ◌-ℤ◌, ◌*ℤ◌}
+use Rattle.std.proofs.Common.{◌≡◌, ◌↔◌, IsTrue, ◌<◌, ⊎_elim, ℕ, Bool, true, false, List, length, slice_index_or, sym, ◌∙◌, subst, ap, arith, ℤ, pos, ◌-ℤ◌, ◌*ℤ◌}
 use Rattle.std.proofs.lemmas.Bool.{false≢true, cases_order}
 use Rattle.std.proofs.lemmas.List.{get_or_default}
 use Rattle.std.proofs.lemmas.Int.{ints}
@@ -38,6 +38,11 @@ crossing_here S K a b e f se sf h =
     let P : Pair → Type 0 = λ x. AreCrossing S x.lo x.hi f.lo f.hi in
     let Q : Pair → Type 0 = λ y. AreCrossing S h.0.lo h.0.hi y.lo y.hi in
     subst P (stands_same K a h.0 e h.2 se) (subst Q (stands_same K b h.1 f h.3 sf) h.4)
+
+-- a test of the pairs at two positions
+pub crossing_tested : (S : List Point) (K : List Pair) (a b : ℕ) (e f : Pair) (r : Bool) → StandsAt K a e → StandsAt K b f
+    → IsTrue r ↔ AreCrossing S e.lo e.hi f.lo f.hi → IsTrue r ↔ AreCrossingAt S K a b
+crossing_tested S K a b e f r se sf h = (λ t. (e, f, se, sf, h.0 t), λ c. h.1 (crossing_here S K a b e f se sf c))
 
 none_times : (a b : ℤ) → a *ℤ (b -ℤ b) ≡ pos 0
 none_times a b =

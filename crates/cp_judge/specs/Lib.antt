@@ -1,3 +1,5 @@
 pub mod Ends
 pub mod Violation
+pub mod Ascending
+pub mod Spans
 pub mod Judgement

@@ -1,16 +1,26 @@
-// Pairs that cross.
-ghost use Rattle.std.specs.Prelude.{◌<◌, length, MatchOption};
+// Pairs that cross. Only pairs whose ranges of x meet are compared, where the list isn't too long to put them in order.
+ghost use Rattle.std.specs.Prelude.{◌≡◌, ◌<◌, ◌≤◌, ◌↔◌, ℕ, length, IsTrue, MatchOption};
 ghost use Rattle.partition_defs.specs.Partition.{AreWithin, ArePlane};
 ghost use Rattle.cp_judge.specs.Violation.{AreCrossingAt, IsCrossing, IsLeastAfterOrNone};
+ghost use Rattle.cp_judge.specs.Spans.{span, HasRange, AreSpans, AreByLeft, IsUpToCrossing, CrossNoneBefore};
 
+use crate::MOST_ORDERED;
 use plane::{Pair, Points};
+
+// The least and the greatest x of a pair's ends, and the position at which the pair stands.
+#[derive(Clone, Copy)]
+struct Span {
+    left: i64,
+    right: i64,
+    place: usize,
+}
 
 /// The pairs at the first two positions, by the first and then the second, whose pairs cross, or none.
 pub fn first_crossing(points: &Points, list: &[Pair]) -> Option<(Pair, Pair)>
     requires { AreWithin points.now list.now }
     ensures { MatchOption result (ArePlane points.now list.now) (λ v. IsCrossing points.now list.now v.0 v.1) }
 {
-    for a in 0..list.len() {
+    for a in first_to_try(points, list)..list.len() {
         if let Some(b) = first_crossed(points, list, a) {
             return Some((list[a], list[b]));
         }
@@ -24,11 +34,120 @@ fn first_crossed(points: &Points, list: &[Pair], a: usize) -> Option<usize>
     requires position { a < length list.now }
     ensures { IsLeastAfterOrNone (AreCrossingAt points.now list.now a) a (length list.now) result }
 {
-    let e = list[a];
     for b in a + 1..list.len() {
-        if points.cross(e, list[b]) {
+        if cross_at(points, list, a, b) {
             return Some(b);
         }
     }
     None
+}
+
+// Whether the pairs at two positions cross.
+fn cross_at(points: &Points, list: &[Pair], a: usize, b: usize) -> bool
+    requires within { AreWithin points.now list.now }
+    requires a_in { a < length list.now }
+    requires b_in { b < length list.now }
+    ensures { IsTrue result ↔ AreCrossingAt points.now list.now a b }
+{
+    points.cross(list[a], list[b])
+}
+
+// A position before which no pair crosses a later one: the least of a crossing, or 0 in a list that is too long to order.
+fn first_to_try(points: &Points, list: &[Pair]) -> usize
+    requires { AreWithin points.now list.now }
+    ensures { CrossNoneBefore points.now list.now result }
+{
+    if list.len() > MOST_ORDERED {
+        return 0;
+    }
+    let mut room = [Span {
+        left: 0,
+        right: 0,
+        place: 0,
+    }; MOST_ORDERED];
+    let spans = &mut room[..list.len()];
+    set_spans(points, list, spans);
+    spans.sort_unstable_by_key(|span| span.left);
+    least_crossing(points, list, spans)
+}
+
+fn span_of(points: &Points, e: Pair, place: usize) -> Span
+    requires { e.hi < length points.now }
+    ensures range { HasRange points.now e result }
+    ensures place { result.place ≡ place }
+{
+    let (x, y) = (points.at(e.lo()).x, points.at(e.hi()).x);
+    Span {
+        left: x.min(y),
+        right: x.max(y),
+        place,
+    }
+}
+
+// Puts the span of each pair at the pair's position.
+fn set_spans(points: &Points, list: &[Pair], spans: &mut [Span])
+    requires within { AreWithin points.now list.now }
+    requires room { length spans.old ≡ length list.now }
+    ensures { AreSpans points.now list.now spans.new }
+{
+    for place in 0..list.len() {
+        spans[place] = span_of(points, list[place], place);
+    }
+}
+
+// The least position of a pair that crosses another, or how many pairs there are.
+fn least_crossing(points: &Points, list: &[Pair], spans: &[Span]) -> usize
+    requires within { AreWithin points.now list.now }
+    requires spans { AreSpans points.now list.now spans.now }
+    requires ordered { AreByLeft spans.now }
+    ensures { CrossNoneBefore points.now list.now result }
+{
+    let mut least = list.len();
+    for k in 0..spans.len() {
+        least = least_crossing_at(points, list, spans, k, least);
+    }
+    least
+}
+
+// The least of a position and those of the pairs that cross, of which one has span k and the other a later span. No
+// span from the first that begins right of span k's end can be of a pair that crosses.
+fn least_crossing_at(
+    points: &Points,
+    list: &[Pair],
+    spans: &[Span],
+    k: usize,
+    least: usize,
+) -> usize
+    requires within { AreWithin points.now list.now }
+    requires spans { AreSpans points.now list.now spans.now }
+    requires ordered { AreByLeft spans.now }
+    requires k_in { k < length spans.now }
+    ensures below { result ≤ least }
+    ensures met { (j : ℕ) → k < j → j < length spans.now → IsUpToCrossing points.now list.now result (span spans.now k) (span spans.now j) }
+{
+    let span = spans[k];
+    let mut least = least;
+    for j in k + 1..spans.len() {
+        let next = spans[j];
+        if span.right < next.left {
+            return least;
+        }
+        least = least_if_crossing(points, list, span, next, least);
+    }
+    least
+}
+
+// The least of a position and, where the pairs of two spans cross, the positions of these.
+fn least_if_crossing(points: &Points, list: &[Pair], z: Span, w: Span, least: usize) -> usize
+    requires within { AreWithin points.now list.now }
+    requires z_in { z.place < length list.now }
+    requires w_in { w.place < length list.now }
+    ensures below { result ≤ least }
+    ensures met { IsUpToCrossing points.now list.now result z w }
+{
+    if cross_at(points, list, z.place, w.place) {
+        least.min(z.place).min(w.place)
+    } else {
+        least
+    }
 }

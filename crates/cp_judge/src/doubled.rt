@@ -2,7 +2,9 @@
 ghost use Rattle.std.specs.Prelude.{◌<◌, ◌↔◌, length, IsTrue, MatchOption};
 ghost use Rattle.partition_defs.specs.Triangulation.{AreDistinct};
 ghost use Rattle.cp_judge.specs.Violation.{IsRepeatedAt, IsDoubled};
+ghost use Rattle.cp_judge.specs.Ascending.{IsAscending};
 
+use crate::MOST_ORDERED;
 use plane::Pair;
 
 // Whether the pair at this position stands at an earlier one too.
@@ -19,10 +21,34 @@ fn is_repeated(list: &[Pair], k: usize) -> bool
     false
 }
 
+// Whether each pair comes before the next.
+fn is_ascending(list: &[Pair]) -> bool
+    ensures { IsTrue result ↔ IsAscending list.now }
+{
+    list.is_sorted_by(|e, f| e < f)
+}
+
+// Whether a copy of the list is ascending once it is sorted. Of a list that is too long for a copy it says false.
+fn ascends_when_sorted(list: &[Pair]) -> bool
+    ensures { IsTrue result → AreDistinct list.now }
+{
+    if list.len() > MOST_ORDERED {
+        return false;
+    }
+    let mut room = [Pair::of(0, 1); MOST_ORDERED];
+    let sorted = &mut room[..list.len()];
+    sorted.copy_from_slice(list);
+    sorted.sort_unstable();
+    is_ascending(sorted)
+}
+
 /// The first pair of the list that stood in it before, or none.
 pub fn first_doubled(list: &[Pair]) -> Option<Pair>
     ensures { MatchOption result (AreDistinct list.now) (IsDoubled list.now) }
 {
+    if is_ascending(list) || ascends_when_sorted(list) {
+        return None;
+    }
     for k in 0..list.len() {
         if is_repeated(list, k) {
             return Some(list[k]);

@@ -24,6 +24,9 @@ use doubled::first_doubled;
 use needs::first_unmet;
 use plane::{Pair, Points};
 
+// The most pairs that are put in order on the stack; a longer list is compared pair by pair.
+const MOST_ORDERED: usize = 20_000;
+
 // The first violation, or that there is none.
 fn first_violation(points: &Points, list: &[Pair]) -> Judgement
     requires within { AreWithin points.now list.now }

@@ -25,7 +25,7 @@ fn pairs_of(rt: &impl Abort, alloc: Global, list: &[(u32, u32)]) -> Result<Vec<P
 
 // The judgement on a list, or none where an end is no point.
 fn judged(points: &Points, list: &[Pair]) -> Option<Judgement> {
-    if list.len() > 1000 || !are_within(points, list) {
+    if list.len() > 100_000 || !are_within(points, list) {
         return None;
     }
     Some(judge(points, list))
@@ -38,10 +38,15 @@ const CENTRED: [(i64, i64); 5] = [(0, 0), (0, 4), (4, 0), (4, 4), (2, 2)];
 // A triangle with a point inside its lower side, and one inside the triangle.
 const SIDED: [(i64, i64); 5] = [(0, 0), (2, 0), (4, 0), (0, 4), (1, 1)];
 
+// A triangle with a point inside its left side, which is upright.
+const UPRIGHT: [(i64, i64); 4] = [(0, 0), (0, 2), (0, 4), (4, 2)];
+// Corners of a hexagon, counterclockwise. 1 and 5 have one x, and 2 and 4.
+const HEXAGON: [(i64, i64); 6] = [(0, 3), (2, 0), (6, 1), (8, 4), (6, 7), (2, 6)];
+
 #[test]
 fn the_first_violation_is_shown(rt: HostRuntime) -> Result<(), Fail> {
     // Each list of points and of pairs, and its judgement by hand from the definition.
-    let cases: [(&[(i64, i64)], &[(u32, u32)], Judgement); 20] = [
+    let cases: [(&[(i64, i64)], &[(u32, u32)], Judgement); 29] = [
         (
             &SQUARE,
             &[(0, 1), (2, 0), (1, 3), (2, 3)],
@@ -142,6 +147,57 @@ fn the_first_violation_is_shown(rt: HostRuntime) -> Result<(), Fail> {
             &[(0, 1), (1, 2), (0, 3), (2, 3), (0, 4), (2, 4), (3, 4)],
             Judgement::Convex(7),
         ),
+        // Upright pairs on one line.
+        (
+            &UPRIGHT,
+            &[(1, 2), (0, 1), (2, 3), (0, 3)],
+            Judgement::Convex(4),
+        ),
+        (
+            &UPRIGHT,
+            &[(1, 3), (1, 2), (0, 1), (2, 3), (0, 3)],
+            Judgement::Convex(5),
+        ),
+        (
+            &HEXAGON,
+            &[(4, 5), (0, 1), (2, 3), (0, 5), (1, 2), (3, 4), (1, 5)],
+            Judgement::Convex(7),
+        ),
+        // The later pair begins further left.
+        (
+            &HEXAGON,
+            &[(2, 4), (0, 3)],
+            Judgement::Crossing(Pair::of(2, 4), Pair::of(0, 3)),
+        ),
+        // 1-5 crosses 0-3 further left, but stands later.
+        (
+            &HEXAGON,
+            &[(2, 4), (1, 5), (0, 3)],
+            Judgement::Crossing(Pair::of(2, 4), Pair::of(0, 3)),
+        ),
+        // 0-2 crosses 1-5 and 1-3 further left, but stands last.
+        (
+            &HEXAGON,
+            &[(2, 4), (1, 3), (1, 5), (0, 2)],
+            Judgement::Crossing(Pair::of(2, 4), Pair::of(1, 3)),
+        ),
+        // 0-2 begins further left than 2-5, and both cross 1-4.
+        (
+            &HEXAGON,
+            &[(3, 4), (1, 4), (2, 5), (0, 2)],
+            Judgement::Crossing(Pair::of(1, 4), Pair::of(2, 5)),
+        ),
+        // 0-1 comes first in order, and 3-4 stands twice first.
+        (
+            &HEXAGON,
+            &[(0, 1), (3, 4), (2, 3), (4, 3), (1, 0)],
+            Judgement::Doubled(Pair::of(3, 4)),
+        ),
+        (
+            &HEXAGON,
+            &[(2, 3), (4, 5), (0, 1), (3, 4), (0, 5), (1, 2), (2, 3)],
+            Judgement::Doubled(Pair::of(2, 3)),
+        ),
     ];
     for (corners, list, wanted) in cases {
         let points = points_of(&rt, rt.alloc(), corners)?;
@@ -220,5 +276,81 @@ fn the_plain_program_agrees(rt: HostRuntime) -> Result<(), Fail> {
     }
     assert!(rt; convex > 2);
     assert!(rt; other > 2);
+    Ok(())
+}
+
+// The pairs that the seed lets in, in no order.
+fn mixed(alloc: Global, seed: u32) -> Result<Vec<Pair>, Fail> {
+    let mut state = seed;
+    let mut pairs = Vec::new(alloc);
+    for k in 0..36u32 {
+        state = next(state);
+        let place = (k * 5 + seed % 36) % 36;
+        let (i, j) = (place / 6, place % 6);
+        if i < j && (state >> 20) % 8 < seed % 8 {
+            pairs.push(Pair::of(i, j))?;
+        }
+    }
+    Ok(pairs)
+}
+
+// The first pairs by position that cross, by the definition.
+fn crossing_plain(points: &Points, list: &[Pair]) -> Option<Judgement> {
+    let count = points.len();
+    for (k, e) in list.iter().enumerate() {
+        for f in list.iter().skip(k) {
+            if e.hi() < count && f.hi() < count && points.cross(*e, *f) {
+                return Some(Judgement::Crossing(*e, *f));
+            }
+        }
+    }
+    None
+}
+
+#[test]
+fn the_first_crossing_is_shown(rt: HostRuntime) -> Result<(), Fail> {
+    let mut crossing = 0u32;
+    let mut other = 0u32;
+    for seed in 0..200u32 {
+        let made = scattered(rt.alloc(), seed)?;
+        assert!(rt; made.len() < 5001);
+        if let Ok(points) = Points::make(made) {
+            let mut pairs = mixed(rt.alloc(), seed)?;
+            pairs.retain(|e| e.hi() < points.len() && points.is_clear(*e));
+            let plain = crossing_plain(&points, pairs.as_slice());
+            let answer = judged(&points, pairs.as_slice());
+            let shown = answer.filter(|j| matches!(j, Judgement::Crossing(_, _)));
+            assert_eq!(rt; shown, plain, "at {seed}");
+            if plain.is_some() {
+                crossing = crossing.saturating_add(1);
+            } else {
+                other = other.saturating_add(1);
+            }
+        }
+    }
+    assert!(rt; crossing > 20);
+    assert!(rt; other > 20);
+    Ok(())
+}
+
+// All pairs of 210 points of a parabola, ascending: more than are put in order.
+#[test]
+fn a_long_list_is_judged(rt: HostRuntime) -> Result<(), Fail> {
+    let mut made = Vec::new(rt.alloc());
+    let mut pairs = Vec::new(rt.alloc());
+    for i in 0..210u32 {
+        let x = i64::from(i);
+        made.push(Point { x, y: x * x })?;
+        for j in i + 1..210 {
+            pairs.push(Pair::of(i, j))?;
+        }
+    }
+    assert!(rt; made.len() < 5001);
+    let points = Points::make(made)?;
+    let first = Judgement::Crossing(Pair::of(0, 2), Pair::of(1, 3));
+    assert_eq!(rt; judged(&points, pairs.as_slice()), Some(first));
+    pairs.insert(0, Pair::of(0, 1))?;
+    let first = Judgement::Doubled(Pair::of(0, 1));
+    assert_eq!(rt; judged(&points, pairs.as_slice()), Some(first));
     Ok(())
 }

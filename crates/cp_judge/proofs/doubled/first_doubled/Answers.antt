@@ -2,7 +2,9 @@ use Rattle.std.proofs.Common.{ℕ, arith}
 use borrow.Author.Count.{below_more}
 use Rattle.cp_judge.specs.Violation.{IsRepeatedAt}
 use Rattle.cp_judge.proofs.Items.{refused, distinct_from}
+use Rattle.cp_judge.proofs.Distinct.{ascending_distinct}
 use Rattle.cp_judge.proofs.doubled.first_doubled.Goals as goal
+use Rattle.cp_judge.proofs.doubled.first_doubled.Goals.{then-is_ascending-via-then-is_ascending, then-is_ascending-via-else-is_ascending+then-ascends_when_sorted}
 
 pub loop-k-preserved : goal.loop-k-preserved
 loop-k-preserved c =
@@ -10,3 +12,9 @@ loop-k-preserved c =
 
 pub returns : goal.returns
 returns c = distinct_from c.args.list.now (λ k l. c.loop-k.invariant k (omega arith))
+
+pub returns-then-is_ascending : goal.returns-then-is_ascending
+returns-then-is_ascending c = elim c.then-is_ascending.branch [
+  | then-is_ascending-via-then-is_ascending w ↦ ascending_distinct c.args.list.now (c.is_ascending.ensures.0 w.if-is_ascending.true)
+  | then-is_ascending-via-else-is_ascending+then-ascends_when_sorted w ↦ w.ascends_when_sorted.ensures w.if-ascends_when_sorted.true
+]

@@ -1,0 +1,14 @@
+use Rattle.std.proofs.Common.{sym}
+use Rattle.cp_judge.proofs.Items.{crossing_tested}
+use Rattle.cp_judge.proofs.crossing.cross_at.Goals as goal
+
+pub cross-requires : goal.cross-requires
+cross-requires c = record {
+  e_in = c.requires.within c.index-list-a.result (c.args.a, c.requires.a_in, sym c.index-list-a.is);
+  f_in = c.requires.within c.index-list-b.result (c.args.b, c.requires.b_in, sym c.index-list-b.is);
+}
+
+pub returns : goal.returns
+returns c =
+    crossing_tested c.args.points.now c.args.list.now c.args.a c.args.b c.index-list-a.result c.index-list-b.result c.cross.result
+    (c.requires.a_in, sym c.index-list-a.is) (c.requires.b_in, sym c.index-list-b.is) c.cross.ensures

@@ -1,0 +1,21 @@
+use Rattle.std.proofs.Common.{rules, arith}
+use Rattle.cp_judge.proofs.Ranges.{next_met, rest_apart}
+use Rattle.cp_judge.proofs.crossing.least_crossing_at.Goals as goal
+
+pub returns-then-span-next-clause-met : goal.returns-then-span-next-clause-met
+returns-then-span-next-clause-met c =
+    rest_apart c.args.points.now c.args.list.now c.args.spans.now c.loop-j.least c.args.k c.loop-j.j c.requires.spans c.requires.ordered c.requires.k_in
+    (search rules) c.loop-j.invariant.met
+
+pub least_if_crossing-least-requires-clause-z_in : goal.least_if_crossing-least-requires-clause-z_in
+least_if_crossing-least-requires-clause-z_in c = (c.requires.spans.each c.args.k _ c.requires.k_in).1.0
+
+pub least_if_crossing-least-requires-clause-w_in : goal.least_if_crossing-least-requires-clause-w_in
+least_if_crossing-least-requires-clause-w_in c = (c.requires.spans.each c.loop-j.j _ c.loop-j-test.true).1.0
+
+pub loop-j-preserved : goal.loop-j-preserved
+loop-j-preserved c = record {
+  below = omega arith;
+  met = next_met c.args.points.now c.args.list.now c.args.spans.now c.loop-j.least c.least_if_crossing-least.result c.args.k c.loop-j.j c.least_if_crossing-least.ensures.below
+      c.least_if_crossing-least.ensures.met c.loop-j.invariant.met;
+}

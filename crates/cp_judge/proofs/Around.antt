@@ -1,20 +1,30 @@
 -- Where the need of a point for each of its ends is met among them, the need for each other point is: of ends that are all
 -- right of one line, the one furthest counterclockwise has none of them in the need for it.
-use Rattle.std.proofs.Common.{◌≡◌, ◌≢◌, ◌<◌, ℕ, List, [], ◌∷◌, length, slice_index_or, ℤ, pos, ◌*ℤ◌, ◌<ℤ◌, ◌≤ℤ◌, ◌⊎◌, inl, inr, arith}
+use Rattle.std.proofs.Common.{◌≡◌, ◌≢◌, ◌<◌, ℕ, List, [], ◌∷◌, length, slice_index_or, pos, neg_ℤ, ◌<ℤ◌, ◌≤ℤ◌, ◌⊎◌, inl, inr, arith}
 use Rattle.std.specs.List.{All, Contains}
 use Rattle.std.proofs.lemmas.Int.{ints}
 use Rattle.std.proofs.lemmas.List.Elements.{All-nil, All-cons, All-head, All-tail, All-contains, Contains-append_left, Contains-append_right, Contains-push, Contains-get_or}
 use Rattle.plane.specs.declared.coordinates.Point.{Point}
 use Rattle.plane.specs.Geometry.{point, area, scalar, orientation, IsBetween, IsInNeed}
 use Rattle.plane.specs.Accepted.{AreApart}
+use Rattle.plane.proofs.Determinant.{mul_neg, neg_mul}
 use Rattle.plane.proofs.Area.{area_swap, area_back}
 use Rattle.plane.proofs.Along.{no_area, other_side}
 use Rattle.plane.proofs.Outermost.{points_differ}
-use Rattle.plane.proofs.Signs.{negative_or, positive_negative, negative_negative, zero_left, zero_right}
+use Rattle.plane.proofs.Signs.{negative_or, positive_negative, zero_right}
+use Rattle.plane_laws.proofs.Products.{mul_weak}
 use Rattle.plane_laws.proofs.Separation.{weigh}
 use Rattle.plane_laws.proofs.Steps.{by_sign}
 use Rattle.cp_judge.specs.Ends.{AreOthers, IsMetAmong, MeetsNeedsAmong}
 use Rattle.cp_judge.proofs.Direction.{one_direction, left_along, opposite_along}
+
+-- r is strictly right of the line from p to q
+abbrev IsRight : List Point → (p q r : ℕ) → Type 0
+IsRight S p q r = orientation S p q r <ℤ pos 0
+
+-- r isn't strictly left of it
+abbrev IsNotLeft : List Point → (p q r : ℕ) → Type 0
+IsNotLeft S p q r = orientation S p q r ≤ℤ pos 0
 
 -- between or not, of points in line
 between_or : (S : List Point) (p q r : ℕ) → orientation S q p r ≡ pos 0 → IsBetween S p q r ⊎ ¬ IsBetween S p q r
@@ -37,7 +47,7 @@ need_along S p q m r apart hp hq hm qp mp line off need =
 
 -- a point of E is in the need of p for q, or brings one that is, or is strictly right of the line from p to q
 met_or_right : (S : List Point) (E : List ℕ) (p q m : ℕ) → AreApart S → p < length S → q < length S → q ≢ p → AreOthers S p E → Contains E m
-    → IsMetAmong S E p m → IsMetAmong S E p q ⊎ (orientation S p q m <ℤ pos 0)
+    → IsMetAmong S E p m → IsMetAmong S E p q ⊎ IsRight S p q m
 met_or_right S E p q m apart hp hq qp others at met =
     let other = All-contains (λ r. (r < length S) × (r ≢ p)) E m others at in
     by_sign (orientation S p q m)
@@ -48,6 +58,7 @@ met_or_right S E p q m apart hp hq qp others at met =
     ]))
     (λ right. inr right)
 
+-- one of two, of each element
 either_all : (P : Type 0) (Q : ℕ → Type 0) (xs : List ℕ) → All (λ x. P ⊎ Q x) xs → P ⊎ All Q xs
 either_all P Q [] h = inr (All-nil Q)
 either_all P Q (x ∷ xs) h = elim (All-head (λ x. P ⊎ Q x) x xs h) [
@@ -55,15 +66,14 @@ either_all P Q (x ∷ xs) h = elim (All-head (λ x. P ⊎ Q x) x xs h) [
   | inr b ↦ elim (either_all P Q xs (All-tail (λ x. P ⊎ Q x) x xs h)) [ inl a ↦ inl a | inr c ↦ inr (All-cons Q x xs b c) ]
 ]
 
-weak_product : (a b : ℤ) → a ≤ℤ pos 0 → b <ℤ pos 0 → pos 0 ≤ℤ (a *ℤ b)
-weak_product a b ha hb = by_sign a (λ h. absurd (omega (arith, ints))) (λ z. let e = zero_left a b z in omega (arith, ints)) (λ h. let e = negative_negative a b h hb in omega (arith, ints))
-
--- of points right of one line through p, those that m has on its right are right of each that m has on its left
+-- among points right of one line through p: what isn't left of m isn't left of a point that is left of m
 further_right : (p q m r s : Point) → area p q m <ℤ pos 0 → area p q r <ℤ pos 0 → area p q s <ℤ pos 0 → area p m s ≤ℤ pos 0 → pos 0 <ℤ area p m r → area p r s ≤ℤ pos 0
 further_right p q m r s hm hr hs ms mr =
     let e = weigh p q p m r s in
     let a = zero_right (area m r s) (area p q p) (no_area p q) in
-    let b = weak_product (area p m s) (area p q r) ms hr in
+    let b = mul_weak (neg_ℤ (area p m s)) (neg_ℤ (area p q r)) (omega (arith, ints)) (omega (arith, ints)) in
+    let f = mul_neg (neg_ℤ (area p m s)) (area p q r) in
+    let g = neg_mul (area p m s) (area p q r) in
     let c = positive_negative (area p m r) (area p q s) mr hs in
     by_sign (area p r s) (λ h. absurd (let d = positive_negative (area p r s) (area p q m) h hm in omega (arith, ints))) (λ z. omega (arith, ints)) (λ h. omega (arith, ints))
 
@@ -71,33 +81,33 @@ in_place : (p q : Point) → area p q q ≤ℤ pos 0
 in_place p q = let e = area_swap p q q in omega (arith, ints)
 
 -- of points right of one line through p, one has none on its left
-furthest : (S : List Point) (p q x : ℕ) (xs : List ℕ) → All (λ r. orientation S p q r <ℤ pos 0) (x ∷ xs)
-    → (m : ℕ) × Contains (x ∷ xs) m × All (λ r. orientation S p m r ≤ℤ pos 0) (x ∷ xs)
-furthest S p q x [] right = (x, Contains-push [] x, All-cons (λ r. orientation S p x r ≤ℤ pos 0) x [] (in_place (point S p) (point S x)) (All-nil (λ r. orientation S p x r ≤ℤ pos 0)))
+furthest : (S : List Point) (p q x : ℕ) (xs : List ℕ) → All (IsRight S p q) (x ∷ xs)
+    → (m : ℕ) × Contains (x ∷ xs) m × All (IsNotLeft S p m) (x ∷ xs)
+furthest S p q x [] right = (x, Contains-push [] x, All-cons (IsNotLeft S p x) x [] (in_place (point S p) (point S x)) (All-nil (IsNotLeft S p x)))
 furthest S p q x (y ∷ ys) right =
-    let later : All (λ r. orientation S p q r <ℤ pos 0) (y ∷ ys) = All-tail (λ r. orientation S p q r <ℤ pos 0) x (y ∷ ys) right in
-    let first : orientation S p q x <ℤ pos 0 = All-head (λ r. orientation S p q r <ℤ pos 0) x (y ∷ ys) right in
+    let later : All (IsRight S p q) (y ∷ ys) = All-tail (IsRight S p q) x (y ∷ ys) right in
+    let first : IsRight S p q x = All-head (IsRight S p q) x (y ∷ ys) right in
     let (m, at, all) = furthest S p q y ys later in
-    let stay : orientation S p m x ≤ℤ pos 0 → (m : ℕ) × Contains (x ∷ y ∷ ys) m × All (λ r. orientation S p m r ≤ℤ pos 0) (x ∷ y ∷ ys) =
-    λ h. (m, Contains-append_right (x ∷ []) (y ∷ ys) m at, All-cons (λ r. orientation S p m r ≤ℤ pos 0) x (y ∷ ys) h all) in
+    let stay : IsNotLeft S p m x → (m : ℕ) × Contains (x ∷ y ∷ ys) m × All (IsNotLeft S p m) (x ∷ y ∷ ys) =
+    λ h. (m, Contains-append_right (x ∷ []) (y ∷ ys) m at, All-cons (IsNotLeft S p m) x (y ∷ ys) h all) in
     by_sign (orientation S p m x)
     (λ left. (
       x,
       Contains-append_left (x ∷ []) (y ∷ ys) x (Contains-push [] x),
-      All-cons (λ r. orientation S p x r ≤ℤ pos 0) x (y ∷ ys) (in_place (point S p) (point S x))
-          (λ k d l. further_right (point S p) (point S q) (point S m) (point S x) (point S (slice_index_or (y ∷ ys) k d)) (All-contains (λ r. orientation S p q r <ℤ pos 0) (y ∷ ys) m later at) first (later k d l) (all k d l) left),
+      All-cons (IsNotLeft S p x) x (y ∷ ys) (in_place (point S p) (point S x))
+          (λ k d l. further_right (point S p) (point S q) (point S m) (point S x) (point S (slice_index_or (y ∷ ys) k d)) (All-contains (IsRight S p q) (y ∷ ys) m later at) first (later k d l) (all k d l) left),
     ))
     (λ z. stay (omega (arith, ints))) (λ h. stay (omega (arith, ints)))
 
 -- not all points of E are right of a line through p, where the need of p for each is met among them
-not_all_right : (S : List Point) (E : List ℕ) (p q : ℕ) → 0 < length E → All (IsMetAmong S E p) E → ¬ All (λ r. orientation S p q r <ℤ pos 0) E
+not_all_right : (S : List Point) (E : List ℕ) (p q : ℕ) → 0 < length E → All (IsMetAmong S E p) E → ¬ All (IsRight S p q) E
 not_all_right S [] p q some met right = omega arith
 not_all_right S (x ∷ xs) p q some met right =
     let (m, at, all) = furthest S p q x xs right in
     let (r, there, need) = All-contains (IsMetAmong S (x ∷ xs) p) (x ∷ xs) m met at in
-    let right_m : orientation S p q m <ℤ pos 0 = All-contains (λ r. orientation S p q r <ℤ pos 0) (x ∷ xs) m right at in
-    let right_r : orientation S p q r <ℤ pos 0 = All-contains (λ r. orientation S p q r <ℤ pos 0) (x ∷ xs) r right there in
-    let near : orientation S p m r ≤ℤ pos 0 = All-contains (λ r. orientation S p m r ≤ℤ pos 0) (x ∷ xs) r all there in
+    let right_m : IsRight S p q m = All-contains (IsRight S p q) (x ∷ xs) m right at in
+    let right_r : IsRight S p q r = All-contains (IsRight S p q) (x ∷ xs) r right there in
+    let near : IsNotLeft S p m r = All-contains (IsNotLeft S p m) (x ∷ xs) r all there in
     elim need.1 [
       | inl left ↦ omega (arith, ints)
       | inr on ↦ (let far = other_side (point S p) (point S m) (point S r) (point S q) on right_r in omega (arith, ints))
@@ -106,12 +116,13 @@ not_all_right S (x ∷ xs) p q some met right =
 -- where E has a point, and the need of p for each point of E is met among E, the need for each other point is
 pub met_around : (S : List Point) (E : List ℕ) (p : ℕ) → AreApart S → p < length S → AreOthers S p E → 0 < length E → All (IsMetAmong S E p) E → MeetsNeedsAmong S E p
 met_around S E p apart hp others some met q hq qp =
-    let place : All (λ m. IsMetAmong S E p q ⊎ (orientation S p q m <ℤ pos 0)) E =
+    let place : All (λ m. IsMetAmong S E p q ⊎ IsRight S p q m) E =
     λ k d l. let at = Contains-get_or E k d l in met_or_right S E p q (slice_index_or E k d) apart hp hq qp others at (met k d l) in
-    elim (either_all (IsMetAmong S E p q) (λ m. orientation S p q m <ℤ pos 0) E place) [
+    elim (either_all (IsMetAmong S E p q) (IsRight S p q) E place) [
       | inl h ↦ h
       | inr right ↦ absurd (not_all_right S E p q some met right)
     ]
 
+-- nothing is met where there is no end
 pub none_met : (S : List Point) (E : List ℕ) (p q : ℕ) → length E ≡ 0 → ¬ IsMetAmong S E p q
 none_met S E p q none met = let within = met.1.1 in omega arith

@@ -10,10 +10,10 @@ use Rattle.plane.proofs.Area.{area_back}
 use Rattle.plane.proofs.Line.{same_point}
 use Rattle.plane_laws.proofs.Steps.{by_sign, cancel_strict}
 
--- the step from p to m, k times, is the step from p to q, n times
+-- the step from p to m, k times, is the step from p to q, n times, and both numbers are positive
 pub record IsAlong (k n : ℤ) (p q m : Point) : Type 0 where
-  pub forward : pos 0 <ℤ k
-  pub scaled : pos 0 <ℤ n
+  pub k_positive : pos 0 <ℤ k
+  pub n_positive : pos 0 <ℤ n
   pub across : k *ℤ (m.x -ℤ p.x) ≡ n *ℤ (q.x -ℤ p.x)
   pub upward : k *ℤ (m.y -ℤ p.y) ≡ n *ℤ (q.y -ℤ p.y)
 
@@ -36,9 +36,6 @@ scaled_step ux uy vx vy k n line ek en =
     ap (λ z. z *ℤ vx) ek ∙ add_mul (ux *ℤ vx) (uy *ℤ vy) vx ∙ ap (λ z. z +ℤ (uy *ℤ vy) *ℤ vx) far ∙ ap (λ z. (vx *ℤ vx) *ℤ ux +ℤ z) near
     ∙ sym (add_mul (vx *ℤ vx) (vy *ℤ vy) ux) ∙ ap (λ z. z *ℤ ux) (sym en)
 
-zero_step : (a b : ℤ) → a -ℤ b ≡ pos 0 → b ≡ a
-zero_step a b e = sym (difference_zero a b e)
-
 elsewhere : (p q : Point) → q ≢ p → ¬ ((q.x -ℤ p.x ≡ pos 0) × (q.y -ℤ p.y ≡ pos 0))
 elsewhere p q apart h = apart (same_point q p (difference_zero q.x p.x h.0) (difference_zero q.y p.y h.1))
 
@@ -56,10 +53,10 @@ one_direction p q m hq hm line off =
     let upward : k *ℤ vy ≡ n *ℤ uy = scaled_step uy ux vy vx k n (sym even) (omega (arith, ints)) (omega (arith, ints)) in
     let long : pos 0 <ℤ n = positive_square vx vy (elsewhere p m hm) in
     record {
-      forward = by_sign k (λ h. h)
+      k_positive = by_sign k (λ h. h)
           (λ z. absurd (elsewhere p q hq (factor_zero n ux long (sym across ∙ zero_left k vx z), factor_zero n uy long (sym upward ∙ zero_left k vy z))))
           (λ h. absurd (off (let e = area_back p q m in omega (arith, ints), h)));
-      scaled = long;
+      n_positive = long;
       across = across;
       upward = upward;
     }
@@ -93,11 +90,12 @@ same_negative k n a b hk hn e ha =
     let h = positive_negative k a hk ha in
     by_sign b (λ c. absurd (let g = positive_positive n b hn c in omega (arith, ints))) (λ z. absurd (let g = zero_right n b z in omega (arith, ints))) (λ c. c)
 
+-- what is left of the line to the one is left of the line to the other, and likewise what is opposite
 pub left_along : (k n : ℤ) (p q m r : Point) → IsAlong k n p q m → pos 0 <ℤ area p m r → pos 0 <ℤ area p q r
-left_along k n p q m r h = same_positive k n (area p m r) (area p q r) h.forward h.scaled (along_area k n p q m r h)
+left_along k n p q m r h = same_positive k n (area p m r) (area p q r) h.k_positive h.n_positive (along_area k n p q m r h)
 
 pub opposite_along : (k n : ℤ) (p q m r : Point) → IsAlong k n p q m → LiesBetween p m r → LiesBetween p q r
 opposite_along k n p q m r h on =
     let flat : area p m r ≡ pos 0 = (let e = area_back p m r in omega (arith, ints, on.0)) in
-    let line : area p q r ≡ pos 0 = factor_zero n (area p q r) h.scaled (sym (along_area k n p q m r h) ∙ zero_right k (area p m r) flat) in
-    (let e = area_back p q r in omega (arith, ints), same_negative k n (scalar p m r) (scalar p q r) h.forward h.scaled (along_scalar k n p q m r h) on.1)
+    let line : area p q r ≡ pos 0 = factor_zero n (area p q r) h.n_positive (sym (along_area k n p q m r h) ∙ zero_right k (area p m r) flat) in
+    (let e = area_back p q r in omega (arith, ints), same_negative k n (scalar p m r) (scalar p q r) h.k_positive h.n_positive (along_scalar k n p q m r h) on.1)

@@ -28,7 +28,7 @@ joins_push K e p r j = elim (Contains-push_cases K e j.1 (contained (K ++ e ∷ 
   | inr same ↦ inr (subst (λ x. HasEnds x p r) (sym same) j.4)
 ]
 
--- one segment more, at p or not
+-- one segment more at p, and one that isn't at p
 ends_push : (K : List Pair) (e : Pair) (p r : ℕ) (E : List ℕ) → IsOtherEnd e p (Some r) → AreEnds K p E → AreEnds (K ++ e ∷ []) p (E ++ r ∷ [])
 ends_push K e p r E other ends s = (
   λ at. elim (Contains-push_cases E r s at) [
@@ -62,13 +62,11 @@ pub record AreEndsBefore (K : List Pair) (i p : ℕ) (E : List ℕ) : Type 0 whe
 next : (K : List Pair) (i : ℕ) (e : Pair) → i < length K → e ≡ get_or K i e → take (i + 1) K ≡ take i K ++ e ∷ []
 next K i e l is = take_more K i e l ∙ ap (λ (x : Pair). take i K ++ x ∷ []) (sym is)
 
-pub none_before : (K : List Pair) (p : ℕ) → AreEndsBefore K 0 p []
-none_before K p = record { ends = λ r. (λ at. absurd (let l = at.1 in omega arith), λ j. absurd (let l = j.2 in omega arith)); count = refl }
-
 counted : (K : List Pair) (i p : ℕ) (e : Pair) (r : ℕ) → i < length K → e ≡ get_or K i e → IsOtherEnd e p (Some r) → count_at (take (i + 1) K) p ≡ count_at (take i K) p + 1
 counted K i p e r l is other =
     count_by_more_yes (λ (x : Pair). (x.lo == p) || (x.hi == p)) K i e l (ap (λ (x : Pair). (x.lo == p) || (x.hi == p)) (sym is) ∙ is_at e p r ((other r).1 refl))
 
+-- a step of the gathering: a segment at p, and one that isn't at p
 pub one_more : (K : List Pair) (i p : ℕ) (e : Pair) (r : ℕ) (E F : List ℕ) → i < length K → e ≡ get_or K i e → IsOtherEnd e p (Some r)
     → F ≡ E ++ r ∷ [] → AreEndsBefore K i p E → AreEndsBefore K (i + 1) p F
 one_more K i p e r E F l is other same so = subst (AreEndsBefore K (i + 1) p) (sym same) (record {
@@ -100,13 +98,16 @@ two_ends e p r same h = let o : e.lo < e.hi = e.ordered in ⊎_elim (λ u. let a
 end_elsewhere : (S : List Point) (K : List Pair) (p r : ℕ) → AreWithin S K → Joins K p r → (r < length S) × (r ≢ p)
 end_elsewhere S K p r within j = (end_in j.1 p r (length S) j.4 (within j.1 (contained K p r j)), λ same. two_ends j.1 p r same j.4)
 
+-- the ends at p are other points
 pub others_of_ends : (S : List Point) (K : List Pair) (p : ℕ) (E : List ℕ) → AreWithin S K → AreEnds K p E → AreOthers S p E
 others_of_ends S K p E within ends k d l = let r = slice_index_or E k d in end_elsewhere S K p r within ((ends r).0 (Contains-get_or E k d l))
 
+-- what is met among the ends is met
 pub met_by_ends : (S : List Point) (K : List Pair) (p : ℕ) (E : List ℕ) → AreWithin S K → AreEnds K p E → MeetsNeedsAmong S E p → MeetsNeedsAt S K p
 met_by_ends S K p E within ends met q hq qp =
     let (r, at, need) = met q hq qp in let j = (ends r).0 at in (r, (end_elsewhere S K p r within j).0, j, need)
 
+-- a point of a border pair is no inner point
 pub not_inner_at : (S : List Point) (p q lo hi : ℕ) → q < length S → q ≢ p → lo ≡ min p q → hi ≡ max p q → IsBorderPair S lo hi → ¬ IsInner S p
 not_inner_at S p q lo hi hq qp el eh pair inner = elim (cases_lt p q) [
   | inl l ↦ (let a : lo ≡ p = omega arith in let b : hi ≡ q = omega arith in inner q hq qp (rw (← a, ← b) pair))

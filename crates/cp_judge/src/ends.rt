@@ -18,8 +18,8 @@ pub fn other_end(e: Pair, p: u32) -> Option<u32>
     }
 }
 
-/// Gathers the other ends of the segments at this point, in place of what was there. It answers whether there was room,
-/// which there is for as many segments as there are points.
+/// Gathers the other ends of the segments at this point, in place of what was there. It answers whether there was room
+/// for them, as there is for up to `MOST_POINTS` segments.
 pub fn gather_ends(list: &[Pair], p: u32, ends: &mut ArrayVec<u32, MOST_POINTS>) -> bool
     ensures gathered { IsTrue result → AreEnds list.now p ends.new.items }
     ensures full { IsFalse result → MOST_POINTS < count_at list.now p }

@@ -1,5 +1,5 @@
 -- Pairs whose ranges of x have no number in common don't cross.
-use Rattle.std.proofs.Common.{get_or-set_other, get_or-set_same, set, ◌≡◌, ◌<◌, ◌≤◌, ◌+◌, ⊎_elim, ℕ, List, length, false, ◌≢◌, below_more, get_or, sym, ◌∙◌, subst, ap, arith, inl, ℤ, ◌<ℤ◌, ◌≤ℤ◌, is_lt, int_cmp}
+use Rattle.std.proofs.Common.{get_or-set_other, get_or-set_same, set, ◌≡◌, ◌<◌, ◌≤◌, ◌+◌, ⊎_elim, ℕ, List, length, false, ◌≢◌, below_more, sym, ◌∙◌, subst, ap, arith, inl, ℤ, ◌<ℤ◌, ◌≤ℤ◌, is_lt, int_cmp}
 use Rattle.std.specs.List.Sorted.{IsPermutation, IsSortedBy}
 use Rattle.std.specs.Int.{int_min, int_max}
 use Rattle.std.proofs.lemmas.Bool.{cases_order, cases_lt}
@@ -11,8 +11,7 @@ use Rattle.std.proofs.lemmas.List.Sorted.{All-permutation, Contains-permutation,
 use Rattle.plane.specs.declared.coordinates.Point.{Point}
 use Rattle.plane.specs.declared.segment.Pair.{Pair}
 use Rattle.plane.specs.Geometry.{point}
-use Rattle.plane.specs.Ranges.{AreBelow}
-use Rattle.plane.proofs.Quadruple.{not_below_across}
+use Rattle.plane.proofs.Quadruple.{AreBelow, not_below_across}
 use Rattle.cp_judge.specs.declared.crossing.Span.{Span}
 use Rattle.cp_judge.specs.Violation.{StandsAt, AreCrossingAt}
 use Rattle.cp_judge.specs.Spans.{span, HasRange, IsSpan, AreSpans, AreByLeft, IsUpToCrossing, CrossNoneBefore}

@@ -1,5 +1,5 @@
 -- Pairs whose ranges of x have no number in common don't cross.
-use Rattle.std.proofs.Common.{get_or-set_other, get_or-set_same, set, ◌≡◌, ◌<◌, ◌≤◌, ◌+◌, ⊎_elim, ℕ, List, length, false, ◌≢◌, below_more, get_or, sym, ◌∙◌, subst, ap, arith, inl, ℤ, ◌<ℤ◌, ◌≤ℤ◌, is_lt, int_cmp}
+use Rattle.std.proofs.Common.{get_or-set_other, get_or-set_same, set, ◌≡◌, ◌<◌, ◌≤◌, ◌+◌, ⊎_elim, ℕ, List, length, false, ◌≢◌, below_more, sym, ◌∙◌, subst, ap, arith, inl, ℤ, ◌<ℤ◌, ◌≤ℤ◌, is_lt, int_cmp}
 use Rattle.std.specs.List.Sorted.{IsPermutation, IsSortedBy}
 use Rattle.std.specs.Int.{int_min, int_max}
 use Rattle.std.proofs.lemmas.Bool.{cases_order, cases_lt}

@@ -298,10 +298,12 @@ fn mixed(alloc: Global, seed: u32) -> Result<Vec<Pair>, Fail> {
 fn crossing_plain(points: &Points, list: &[Pair]) -> Option<Judgement> {
     let count = points.len();
     for (k, e) in list.iter().enumerate() {
-        for f in list.iter().skip(k) {
-            if e.hi() < count && f.hi() < count && points.cross(*e, *f) {
-                return Some(Judgement::Crossing(*e, *f));
-            }
+        let later = list.iter().skip(k);
+        let found = later.copied().find(|f| e.hi() < count
+            && f.hi() < count
+            && points.cross(*e, *f));
+        if let Some(f) = found {
+            return Some(Judgement::Crossing(*e, f));
         }
     }
     None
@@ -333,20 +335,36 @@ fn the_first_crossing_is_shown(rt: HostRuntime) -> Result<(), Fail> {
     Ok(())
 }
 
-// All pairs of 210 points of a parabola, ascending: more than are put in order.
-#[test]
-fn a_long_list_is_judged(rt: HostRuntime) -> Result<(), Fail> {
-    let mut made = Vec::new(rt.alloc());
-    let mut pairs = Vec::new(rt.alloc());
-    for i in 0..210u32 {
+// As many points as have more pairs than are put in order.
+const MANY: u32 = 210;
+
+// Points of a parabola.
+fn parabola(rt: &impl Abort, alloc: Global) -> Result<Points, Fail> {
+    let mut made = Vec::new(alloc);
+    for i in 0..MANY {
         let x = i64::from(i);
         made.push(Point { x, y: x * x })?;
-        for j in i + 1..210 {
+    }
+    assert!(rt; made.len() < 5001);
+    Ok(Points::make(made)?)
+}
+
+// All pairs of these points, ascending.
+fn all_pairs(alloc: Global) -> Result<Vec<Pair>, Fail> {
+    let mut pairs = Vec::new(alloc);
+    for k in 0..MANY * MANY {
+        let (i, j) = (k / MANY, k % MANY);
+        if i < j {
             pairs.push(Pair::of(i, j))?;
         }
     }
-    assert!(rt; made.len() < 5001);
-    let points = Points::make(made)?;
+    Ok(pairs)
+}
+
+#[test]
+fn a_long_list_is_judged(rt: HostRuntime) -> Result<(), Fail> {
+    let points = parabola(&rt, rt.alloc())?;
+    let mut pairs = all_pairs(rt.alloc())?;
     let first = Judgement::Crossing(Pair::of(0, 2), Pair::of(1, 3));
     assert_eq!(rt; judged(&points, pairs.as_slice()), Some(first));
     pairs.insert(0, Pair::of(0, 1))?;

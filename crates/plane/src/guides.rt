@@ -1,7 +1,7 @@
 // Guide points: those that are furthest out in eight directions. Most inner points lie in a triangle of three of them.
 ghost use Rattle.std.specs.Prelude.{◌≡◌, ◌<◌, ◌^◌, length};
 ghost use Rattle.plane.specs.Accepted.{AreIndices, AreNear, IsNear};
-ghost use Rattle.plane.specs.Guides.{reach_of, IsFurthest};
+ghost use Rattle.plane.specs.Guides.{reach_of, AreFurthest, IsFurthest};
 
 use crate::coordinates::Point;
 
@@ -56,11 +56,13 @@ fn furthest(list: &[Point], direction: Direction) -> u32
 }
 
 /// The indices of the guide points, counterclockwise.
+#[tactic(auto, unfolding(crate::specs::Guides::AreFurthest))]
 pub fn guides_of(list: &[Point]) -> [u32; GUIDE_COUNT]
     requires some { 0 < length list.now }
     requires few { length list.now < 2 ^ 32 }
     requires near { AreNear list.now }
-    ensures { AreIndices list.now result }
+    ensures within { AreIndices list.now result }
+    ensures furthest { AreFurthest list.now result }
 {
     [
         furthest(list, Direction::East),

@@ -1,5 +1,5 @@
-//! Points in the plane and the exact tests on them. It alone knows coordinates: the crates above name points by their
-//! index and ask for orientation, betweenness, crossing, border and need.
+//! Points in the plane and the exact tests on them. It alone computes with coordinates: the crates above name points by
+//! their index and ask for orientation, betweenness, crossing, border and need.
 #![tactic(auto)]
 
 mod accepted;

@@ -18,7 +18,7 @@ use Rattle.plane.proofs.Line.{same_point}
 abbrev pub lex : (p q : Point) → Ordering
 lex p q = ordering_then (int_cmp p.x q.x) (int_cmp p.y q.y)
 
-lex_total : IsTotalOrder lex
+pub lex_total : IsTotalOrder lex
 lex_total = then_total (on_total (λ (p : Point). p.x) int_cmp_total) (on_total (λ (p : Point). p.y) int_cmp_total)
 
 lex_equal : IsEquivalence (eq_by_cmp lex)

@@ -13,8 +13,8 @@ use Rattle.std.proofs.lemmas.List.Elements.{All-cons, All-nil, All-append}
 use Rattle.std.proofs.lemmas.List.Kept.{AllPairs-cons}
 use Rattle.std.proofs.lemmas.Map.Keys.{IsDistinct-from_apart}
 use Rattle.std.proofs.lemmas.Map.Made.{length-le_from_is_member}
-use Rattle.std.proofs.Math.Bridge.{le_prop}
 use Rattle.plane.specs.declared.segment.Pair.{Pair, ordered-type}
+use Rattle.plane.proofs.Pairs.{pair_same}
 use Rattle.partition_defs.specs.Triangulation.{AreDistinct}
 use Rattle.triangulate.specs.Sides.{UpTo}
 use Rattle.triangulate.specs.State.{Links}
@@ -120,19 +120,8 @@ distinct_from xs d = IsDistinct-from_apart same xs
     (first_of_true (get_or xs i x).0 (get_or xs i x).1 (get_or xs j x).0 (get_or xs j x).1 e)
     (second_of_true (get_or xs i x).0 (get_or xs i x).1 (get_or xs j x).0 (get_or xs j x).1 e))))
 
--- pairs with the same ends are the same
 made : (a b : ℕ) → ordered-type a b → Pair
 made a b o = record { lo = a; hi = b; ordered = o }
-
-order_once : (a b : ℕ) → IsProp (ordered-type a b)
-order_once a b = le_prop
-
-pair_same : (e f : Pair) → e.lo ≡ f.lo → e.hi ≡ f.hi → e ≡ f
-unfolding made
-pair_same e f h k =
-    let R : ℕ → Type 0 = λ y. (p : ordered-type e.lo y) → made e.lo e.hi e.ordered ≡ made e.lo y p in
-    let Q : ℕ → Type 0 = λ x. (p : ordered-type x f.hi) → made e.lo e.hi e.ordered ≡ made x f.hi p in
-    subst Q h (subst R k (λ p. ap (λ (z : ordered-type e.lo e.hi). made e.lo e.hi z) (order_once e.lo e.hi e.ordered p))) f.ordered
 
 pub pairs_distinct : (B : List Pair) → AreDistinct B → AllPairs (λ (x y : Key). x ≢ y) (map ends B)
 pairs_distinct B d i j x hij hj e =

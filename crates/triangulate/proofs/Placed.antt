@@ -2,9 +2,6 @@
 use Rattle.std.proofs.Common.{◌≡◌, ℕ, ◌<◌, ◌≤◌, inl, inr, sym, ◌∙◌, ap, ap₂, refl, subst, subst₂, List, length, get_or, map, Bool, true, false, arith, eqb, true≢false, Ordering, is_lt, int_cmp}
 use Rattle.std.specs.List.{All, Contains, IsDistinct}
 use Rattle.std.specs.List.Sorted.{IsPermutation, IsSortedBy}
-use Rattle.std.specs.Cmp.{IsTotalOrder}
-use Rattle.std.specs.Ordering.{ordering_then}
-use Rattle.std.proofs.lemmas.Cmp.{then_total, on_total, int_cmp_total}
 use Rattle.std.proofs.lemmas.List.{get_or-map, length-map}
 use Rattle.std.proofs.lemmas.List.Sorted.{All-permutation, Contains-permutation, length_permutation, sorted_far, ranks_by}
 use Rattle.std.proofs.lemmas.List.Elements.{All-get_or, All-from_get_or, Contains-get_or}
@@ -14,21 +11,15 @@ use Rattle.std.proofs.lemmas.Bool.Decides.{nat_tests}
 use Rattle.plane.specs.declared.coordinates.Point.{Point}
 use Rattle.plane.specs.Geometry.{point}
 use Rattle.plane.specs.Accepted.{AreApart}
+use Rattle.plane.proofs.Rising.{lex, lex_total}
 use Rattle.plane_laws.specs.Order.{IsBefore}
 use Rattle.partition_defs.specs.Sweep.{IsSweptBefore}
 use Rattle.triangulate.specs.Order.{ArePlaced, IsSweepOrder}
 use Rattle.triangulate.proofs.Places.{places}
 
--- the order by x, then by y
-abbrev lex : (p q : Point) → Ordering
-lex p q = ordering_then (int_cmp p.x q.x) (int_cmp p.y q.y)
-
 lex_before : (p q : Point) → IsBefore p q → is_lt (lex p q) ≡ true
 lex_before p q (inl h) = grind (arith, ints)
 lex_before p q (inr h) = grind (arith, ints)
-
-lex_total : IsTotalOrder lex
-lex_total = then_total (on_total (λ (p : Point). p.x) int_cmp_total) (on_total (λ (p : Point). p.y) int_cmp_total)
 
 abbrev same_index : (e f : Point × ℕ) → Bool
 same_index e f = eqb e.1 f.1
@@ -54,7 +45,7 @@ placed_rising S apart e f he pe hf pf hn hl = elim (places S apart e.1 f.1 he hf
 
 pub sorted_placed : (S : List Point) → AreApart S → (xs ys : List (Point × ℕ)) → length xs ≡ length S
     → ((k : ℕ) (d : Point × ℕ) → k < length S → get_or xs k d ≡ (point S k, k)) → IsPermutation xs ys
-    → IsSortedBy (λ (e f : Point × ℕ). is_lt (ordering_then (int_cmp e.0.x f.0.x) (int_cmp e.0.y f.0.y))) ys → ArePlaced S ys
+    → IsSortedBy (λ (e f : Point × ℕ). is_lt (lex e.0 f.0)) ys → ArePlaced S ys
 sorted_placed S apart xs ys count each perm sorted =
     let d : Point × ℕ = (point S 0, 0) in
     let P : Point × ℕ → Type 0 = λ e. (e.1 < length S) × (e.0 ≡ point S e.1) in

@@ -137,7 +137,8 @@ fn least_crossing_at(
     least
 }
 
-// The least of a position and, where the pairs of two spans cross, the positions of these.
+// The least of a position and, where the pairs of two spans cross, the positions of these. A list in which many pairs cross
+// soon has a low position, and few of its pairs are compared then.
 fn least_if_crossing(points: &Points, list: &[Pair], z: Span, w: Span, least: usize) -> usize
     requires within { AreWithin points.now list.now }
     requires z_in { z.place < length list.now }
@@ -145,8 +146,9 @@ fn least_if_crossing(points: &Points, list: &[Pair], z: Span, w: Span, least: us
     ensures below { result ≤ least }
     ensures met { IsUpToCrossing points.now list.now result z w }
 {
-    if cross_at(points, list, z.place, w.place) {
-        least.min(z.place).min(w.place)
+    let earlier = z.place.min(w.place);
+    if earlier < least && cross_at(points, list, z.place, w.place) {
+        earlier
     } else {
         least
     }

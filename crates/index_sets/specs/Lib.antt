@@ -1,0 +1,4 @@
+pub mod Indices
+pub mod Prefixes
+pub mod Entries
+pub mod Owners

@@ -1,3 +1,5 @@
 pub mod Partition
 pub mod Triangulation
 pub mod Sweep
+pub mod Ascending
+pub mod Sets

@@ -1,0 +1,4 @@
+-- What proofs of other crates may cite of this crate.
+pub mod Has
+pub mod Joined
+pub mod Sets

@@ -1,19 +1,10 @@
 -- Triangulations of a point set, over membership of segments. (Textbook.)
-use Rattle.std.specs.Prelude.{◌≡◌, ◌≢◌, ℕ, ◌<◌, ◌+◌, ◌*◌, ◌↔◌, List, length, pos, ◌<ℤ◌, ◌≤ℤ◌}
+use Rattle.std.specs.Prelude.{◌≡◌, ◌≢◌, ℕ, ◌<◌, ◌+◌, ◌*◌, ◌↔◌, List, length, pos, ◌<ℤ◌}
 use Rattle.std.specs.List.{AllPairs}
 use Rattle.plane.specs.declared.coordinates.Point.{Point}
 use Rattle.plane.specs.declared.segment.Pair.{Pair}
-use Rattle.plane.specs.Geometry.{orientation, IsBorderPair}
+use Rattle.plane.specs.Geometry.{orientation, IsBorderPair, IsEmptyTriangle}
 use Rattle.partition_defs.specs.Partition.{Joins, AreWithin, AreClear, ArePlane, HasBorder}
-
--- s lies in the closed triangle p q r, whose corners are counterclockwise
-abbrev pub IsInTriangle : List Point → (p q r s : ℕ) → Type 0
-IsInTriangle S p q r s =
-    (pos 0 ≤ℤ orientation S p q s) × (pos 0 ≤ℤ orientation S q r s) × (pos 0 ≤ℤ orientation S r p s)
-
--- the closed triangle p q r has no further point
-abbrev pub IsEmptyTriangle : List Point → (p q r : ℕ) → Type 0
-IsEmptyTriangle S p q r = (s : ℕ) → s < length S → s ≢ p → s ≢ q → s ≢ r → ¬ IsInTriangle S p q r s
 
 -- r is the apex of p to q: with them it spans an empty triangle of the set, on the left
 abbrev pub IsApex : List Point → List Pair → (p q r : ℕ) → Type 0

@@ -7,7 +7,8 @@ use Rattle.plane.specs.declared.coordinates.Turn.{Turn}
 use Rattle.plane.specs.declared.coordinates.Turn.TheVariants.{Left, Straight, Right}
 use Rattle.plane.specs.Geometry.{point, area}
 use Rattle.plane.specs.Accepted.{AreAccepted}
-use Rattle.plane.specs.Hull.{IsOnSide, IsStrictlyInTriangle, HasNoStep}
+use Rattle.plane.specs.Hull.{IsOnSide}
+use Rattle.plane.specs.Walks.{IsStrictlyInTriangle, HasNoStep}
 use Rattle.plane.proofs.Determinant.{mul_add, mul_difference, mul_assoc, mul_neg, swap_middle}
 use Rattle.plane.proofs.Signs.{negative_or, positive_positive, zero_right}
 use Rattle.plane.proofs.Area.{area_cycle}

@@ -6,7 +6,8 @@ use Rattle.plane.specs.declared.coordinates.Turn.{Turn}
 use Rattle.plane.specs.declared.coordinates.Turn.TheVariants.{Left, Straight, Right}
 use Rattle.plane.specs.Geometry.{point, LiesBetween, area, scalar, orientation, IsBetween, IsClear, IsBorderPair, IsInner}
 use Rattle.plane.specs.Accepted.{AreAccepted, AreApart}
-use Rattle.plane.specs.Hull.{IsOnSide, IsBeyond, IsBorderStep, IsStepOrNone, IsFurther}
+use Rattle.plane.specs.Hull.{IsOnSide, IsBorderStep, IsStepOrNone}
+use Rattle.plane.specs.Walks.{IsBeyond, IsFurther}
 use Rattle.plane.proofs.Area.{area_swap, area_back}
 use Rattle.plane.proofs.Along.{no_area, between_swap, other_side, other_side_right, one_between, between_beyond}
 use Rattle.plane.proofs.Line.{collinear}

@@ -1,3 +1,4 @@
+-- For private clauses.
 -- Boxes with sides along the axes, by which many tests are settled without an area.
 use Rattle.std.specs.Prelude.{◌≡◌, ℤ, ◌≤ℤ◌}
 use Rattle.std.specs.Int.{int_min, int_max}

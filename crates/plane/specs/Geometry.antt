@@ -65,3 +65,12 @@ IsInner S v = (w : ℕ) → w < length S → w ≢ v → ¬ IsBorderPair S v w
 -- strictly between q and themselves.
 abbrev pub IsInNeed : List Point → (p q r : ℕ) → Type 0
 IsInNeed S p q r = (r ≢ p) × ((pos 0 <ℤ orientation S p q r) ⊎ IsBetween S p q r)
+
+-- s lies in the closed triangle p q r, whose corners are counterclockwise
+abbrev pub IsInTriangle : List Point → (p q r s : ℕ) → Type 0
+IsInTriangle S p q r s =
+    (pos 0 ≤ℤ orientation S p q s) × (pos 0 ≤ℤ orientation S q r s) × (pos 0 ≤ℤ orientation S r p s)
+
+-- the closed triangle p q r has no further point
+abbrev pub IsEmptyTriangle : List Point → (p q r : ℕ) → Type 0
+IsEmptyTriangle S p q r = (s : ℕ) → s < length S → s ≢ p → s ≢ q → s ≢ r → ¬ IsInTriangle S p q r s

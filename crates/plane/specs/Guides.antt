@@ -1,9 +1,15 @@
+-- For private clauses.
 -- Guide points: points that are furthest out in a direction.
 use Rattle.std.specs.Prelude.{ℕ, ◌<◌, List, length, slice_index, ℤ, ◌+ℤ◌, ◌-ℤ◌, neg_ℤ, ◌≤ℤ◌}
+use Rattle.std.specs.List.{All}
 use Rattle.plane.specs.declared.coordinates.Point.{Point}
 use Rattle.plane.specs.declared.guides.Direction.{Direction}
 use Rattle.plane.specs.declared.guides.Direction.TheVariants.{East, NorthEast, North, NorthWest, West, SouthWest, South, SouthEast}
 use Rattle.plane.specs.Geometry.{point}
+
+-- each number is the index of a point
+abbrev pub AreIndices : List Point → List ℕ → Type 0
+AreIndices S = All (λ i. i < length S)
 
 -- how far out a point is in a direction
 abbrev pub reach_of : Direction → Point → ℤ

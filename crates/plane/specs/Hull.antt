@@ -1,21 +1,15 @@
 -- The next points on the hull's border, either way round. (Textbook.)
-use Rattle.std.specs.Prelude.{◌≡◌, ◌≢◌, ℕ, ◌<◌, ◌⊎◌, List, length, Option, Some, None, ℤ, pos, ◌<ℤ◌, ◌≤ℤ◌}
+use Rattle.std.specs.Prelude.{◌≡◌, ◌≢◌, ℕ, ◌<◌, List, length, Option, Some, None, ℤ, pos, ◌≤ℤ◌}
 use Rattle.plane.specs.declared.coordinates.Point.{Point}
 use Rattle.plane.specs.declared.coordinates.Turn.{Turn}
 use Rattle.plane.specs.declared.coordinates.Turn.TheVariants.{Left, Straight, Right}
-use Rattle.plane.specs.Geometry.{orientation, IsBetween, IsClear}
+use Rattle.plane.specs.Geometry.{orientation, IsClear}
 
 -- an orientation shows a point on this side or on the line
 abbrev pub IsOnSide : Turn → ℤ → Type 0
 IsOnSide Left z = pos 0 ≤ℤ z
 IsOnSide Straight z = z ≡ pos 0
 IsOnSide Right z = z ≤ℤ pos 0
-
--- an orientation shows a point strictly on the other side
-abbrev pub IsBeyond : Turn → ℤ → Type 0
-IsBeyond Left z = z <ℤ pos 0
-IsBeyond Straight z = ⊥
-IsBeyond Right z = pos 0 <ℤ z
 
 -- The pair v-w is clear, and all points are on this side of the line from v to w or on it: with the left side, w is the next
 -- point on the border counterclockwise, and with the right side clockwise.
@@ -29,15 +23,3 @@ pub record IsBorderStep (S : List Point) (side : Turn) (v w : ℕ) : Type 0 wher
 abbrev pub IsStepOrNone : List Point → Turn → ℕ → Option ℕ → Type 0
 IsStepOrNone S side v None = (w : ℕ) → ¬ IsBorderStep S side v w
 IsStepOrNone S side v (Some w) = IsBorderStep S side v w
-
--- seen from v, r is further out than b on the way to the border: strictly beyond the line, or nearer on it
-abbrev pub IsFurther : List Point → Turn → (v b r : ℕ) → Type 0
-IsFurther S side v b r = IsBeyond side (orientation S v b r) ⊎ IsBetween S r v b
-
--- v is strictly inside the triangle a b c, whose corners stand counterclockwise
-abbrev pub IsStrictlyInTriangle : List Point → (v a b c : ℕ) → Type 0
-IsStrictlyInTriangle S v a b c = (pos 0 <ℤ orientation S a b v) × (pos 0 <ℤ orientation S b c v) × (pos 0 <ℤ orientation S c a v)
-
--- no border step begins at v, on neither side
-abbrev pub HasNoStep : List Point → ℕ → Type 0
-HasNoStep S v = (side : Turn) (w : ℕ) → ¬ IsBorderStep S side v w

@@ -1,3 +1,4 @@
+-- For private clauses.
 -- Words of the making of a point set.
 use Rattle.std.specs.Prelude.{◌≡◌, ℕ, ◌<◌, List, length, Option, Some, None}
 use Rattle.plane.specs.declared.coordinates.Point.{Point}

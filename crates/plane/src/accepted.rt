@@ -19,7 +19,8 @@ pub struct Points {
 impl Model for Points {
     ghost use Rattle.std.specs.Prelude.{List};
     ghost use Rattle.plane.specs.declared.coordinates.Point.{Point};
-    ghost use Rattle.plane.specs.Accepted.{AreAccepted, AreIndices};
+    ghost use Rattle.plane.specs.Accepted.{AreAccepted};
+    ghost use Rattle.plane.specs.Guides.{AreIndices};
 
     ghost Value = { List Point };
 

@@ -1,7 +1,8 @@
 // What a point is, and how a list of points can be at fault.
 
-/// The greatest size of a coordinate, 2^30 - 1. (This project's own limit.)
-pub const COORDINATE_LIMIT: u64 = 1_073_741_823;
+/// The greatest size of a coordinate, 2^61 - 1. Products of two steps between points fit 128 bits. (This project's own
+/// limit.)
+pub const COORDINATE_LIMIT: u64 = 2_305_843_009_213_693_951;
 
 /// The fewest points that are accepted. (This project's own limit.)
 pub const FEWEST_POINTS: usize = 3;

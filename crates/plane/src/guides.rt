@@ -1,7 +1,7 @@
 // Guide points: those that are furthest out in eight directions. Most inner points lie in a triangle of three of them.
 ghost use Rattle.std.specs.Prelude.{◌≡◌, ◌<◌, ◌^◌, length};
-ghost use Rattle.plane.specs.Accepted.{AreIndices, AreNear, IsNear};
-ghost use Rattle.plane.specs.Guides.{reach_of, AreFurthest, IsFurthest};
+ghost use Rattle.plane.specs.Accepted.{AreNear, IsNear};
+ghost use Rattle.plane.specs.Guides.{reach_of, AreFurthest, AreIndices, IsFurthest};
 
 use crate::coordinates::Point;
 

@@ -2,7 +2,8 @@
 // inner points.
 ghost use Rattle.std.specs.Prelude.{◌≡◌, ◌≢◌, ◌<◌, ◌↔◌, ℕ, ℤ, length, IsTrue};
 ghost use Rattle.plane.specs.Geometry.{orientation, IsBetween, IsClear, IsInner, IsTurn};
-ghost use Rattle.plane.specs.Hull.{IsOnSide, IsBeyond, IsBorderStep, IsStepOrNone, IsFurther, IsStrictlyInTriangle, HasNoStep};
+ghost use Rattle.plane.specs.Hull.{IsOnSide, IsBorderStep, IsStepOrNone};
+ghost use Rattle.plane.specs.Walks.{IsBeyond, IsFurther, IsStrictlyInTriangle, HasNoStep};
 
 use crate::accepted::Points;
 use crate::coordinates::Turn;
@@ -95,9 +96,7 @@ impl Points {
         requires c_in { c < length self.now }
         ensures { IsTrue result ↔ IsStrictlyInTriangle self.now v a b c }
     {
-        self.orient(a, b, v) == Turn::Left
-            && self.orient(b, c, v) == Turn::Left
-            && self.orient(c, a, v) == Turn::Left
+        self.is_left(a, b, v) && self.is_left(b, c, v) && self.is_left(c, a, v)
     }
 
     fn other_than(&self, v: u32) -> u32

@@ -64,6 +64,16 @@ pub fn turn_of(area: i128) -> Turn
     }
 }
 
+/// The turn at the second of three points that are given by their coordinates. (Textbook.)
+pub fn turn_at(p: Point, q: Point, r: Point) -> Turn
+    requires near_p { IsNear p }
+    requires near_q { IsNear q }
+    requires near_r { IsNear r }
+    ensures { IsTurn result (area p q r) }
+{
+    turn_of(area_of(p, q, r))
+}
+
 /// Whether two numbers have opposite signs, neither being 0.
 pub fn are_opposite(y: i128, z: i128) -> bool
     ensures { IsTrue result ↔ AreOpposite y z }

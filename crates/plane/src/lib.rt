@@ -14,6 +14,7 @@ mod segment;
 
 pub use accepted::Points;
 pub use coordinates::{BadPoints, COORDINATE_LIMIT, FEWEST_POINTS, MOST_POINTS, Point, Turn};
+pub use kernel::{lies_between, turn_at};
 pub use segment::{Pair, PairList};
 
 #[cfg(test)]

@@ -1,12 +1,12 @@
 // The tests on an accepted point set. Each answers exactly its definition.
-ghost use Rattle.std.specs.Prelude.{◌≡◌, ◌≢◌, ◌<◌, ◌≤◌, ◌↔◌, length, IsTrue, ◌≤ℤ◌, pos};
+ghost use Rattle.std.specs.Prelude.{◌≡◌, ◌≢◌, ◌<◌, ◌≤◌, ◌↔◌, length, IsTrue, ◌<ℤ◌, ◌≤ℤ◌, pos};
 ghost use Rattle.plane.specs.First.{IsLeastOrNone};
 ghost use Rattle.plane.specs.Geometry.{orientation, IsTurn, IsBetween, AreCrossing, AreOpposite, IsClear, HasAllLeft, IsBorderPair, IsInner, IsInNeed};
 
 use crate::accepted::Points;
 use crate::bounding_box::BoundingBox;
 use crate::coordinates::Turn;
-use crate::kernel::{area_of, do_cross, is_found_between, lies_between, turn_of};
+use crate::kernel::{area_of, do_cross, is_found_between, lies_between, turn_at};
 use crate::segment::Pair;
 
 impl Points {
@@ -17,7 +17,17 @@ impl Points {
         requires r_in { r < length self.now }
         ensures { IsTurn result (orientation self.now p q r) }
     {
-        turn_of(self.area(p, q, r))
+        turn_at(self.at(p), self.at(q), self.at(r))
+    }
+
+    /// Whether `r` is strictly left of the line from `p` to `q`. (Textbook.)
+    pub fn is_left(&self, p: u32, q: u32, r: u32) -> bool
+        requires p_in { p < length self.now }
+        requires q_in { q < length self.now }
+        requires r_in { r < length self.now }
+        ensures { IsTrue result ↔ (pos 0 <ℤ orientation self.now p q r) }
+    {
+        self.area(p, q, r) > 0
     }
 
     fn area(&self, p: u32, q: u32, r: u32) -> i128
@@ -62,7 +72,7 @@ impl Points {
         requires differ { p ≢ q }
         ensures { IsTrue result ↔ IsInNeed self.now p q r }
     {
-        r != p && (self.orient(p, q, r) == Turn::Left || self.between(p, q, r))
+        r != p && (self.is_left(p, q, r) || self.between(p, q, r))
     }
 
     /// The least index strictly between the ends, or none where the segment is clear.

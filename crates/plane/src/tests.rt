@@ -1,6 +1,6 @@
 ghost use Rattle.std.specs.Prelude.{◌≡◌, length, IfOk};
 
-use crate::{BadPoints, Pair, PairList, Point, Points, Turn};
+use crate::{BadPoints, MOST_POINTS, Pair, PairList, Point, Points, Turn, turn_at};
 use std::alloc::Global;
 use std::process::Abort;
 use std::test::Fail;
@@ -18,15 +18,15 @@ fn make(rt: &impl Abort, alloc: Global, list: &[(i64, i64)]) -> Result<Points, F
 {
     let made = list_of(alloc, list)?;
     assert_eq!(rt; made.len(), list.len());
-    assert!(rt; list.len() < 5001);
+    assert!(rt; list.len() <= MOST_POINTS);
     Ok(Points::make(made)?)
 }
 
 #[test]
 fn faults_come_in_their_order(rt: HostRuntime) -> Result<(), Fail> {
-    let far = 1_073_741_824;
+    let far = 2_305_843_009_213_693_952;
     // Each list, and its first fault by hand from the definition.
-    let cases: [(&[(i64, i64)], Option<BadPoints>); 9] = [
+    let cases: [(&[(i64, i64)], Option<BadPoints>); 10] = [
         (&[(0, 0), (far, 0)], Some(BadPoints::TooFew(2))),
         (&[(0, 0), (far, 0), (0, 0)], Some(BadPoints::TooFar(1))),
         (&[(0, 0), (1, 1), (0, -far)], Some(BadPoints::TooFar(2))),
@@ -43,6 +43,10 @@ fn faults_come_in_their_order(rt: HostRuntime) -> Result<(), Fail> {
         (
             &[(1 - far, 1 - far), (far - 1, 1 - far), (1 - far, far - 1)],
             None,
+        ),
+        (
+            &[(1 - far, 1 - far), (far - 1, 1 - far), (1 - far, far)],
+            Some(BadPoints::TooFar(2)),
         ),
         (&[(0, 0), (1, 1), (2, 2), (3, 4)], None),
     ];
@@ -72,6 +76,10 @@ fn the_square_with_its_centre(rt: HostRuntime) -> Result<(), Fail> {
         points.orient(0, 4, 3),
     ];
     assert_eq!(rt; turns, [Turn::Left, Turn::Right, Turn::Straight]);
+    assert_eq!(rt;
+        turn_at(points.at(0), points.at(2), points.at(1)),
+        Turn::Left
+    );
     let between = [
         points.between(4, 0, 3),
         points.between(0, 4, 3),
@@ -114,6 +122,58 @@ fn the_square_with_its_centre(rt: HostRuntime) -> Result<(), Fail> {
         points.border_after(4),
     ];
     assert_eq!(rt; steps, [Some(2), Some(1), None]);
+    Ok(())
+}
+
+// The four corners of the whole range, and points one step beside its diagonal: an area there has 124 bits.
+#[test]
+fn tests_are_exact_at_the_widest_coordinates(rt: HostRuntime) -> Result<(), Fail> {
+    let most = 2_305_843_009_213_693_951;
+    let list = [
+        (-most, -most),
+        (most, -most),
+        (most, most),
+        (-most, most),
+        (0, 0),
+        (0, 1),
+        (1, 0),
+    ];
+    let points = make(&rt, rt.alloc(), &list)?;
+    assert_eq!(rt; points.len(), 7);
+    let turns = [
+        points.orient(0, 2, 5),
+        points.orient(0, 2, 4),
+        points.orient(0, 2, 6),
+        points.orient(0, 1, 3),
+    ];
+    assert_eq!(rt;
+        turns,
+        [Turn::Left, Turn::Straight, Turn::Right, Turn::Left]
+    );
+    let left = [
+        points.is_left(0, 2, 5),
+        points.is_left(0, 2, 4),
+        points.is_left(0, 2, 6),
+    ];
+    assert_eq!(rt; left, [true, false, false]);
+    let between = [
+        points.between(4, 0, 2),
+        points.between(5, 0, 2),
+        points.between(4, 1, 3),
+    ];
+    assert_eq!(rt; between, [true, false, true]);
+    let across = [
+        points.cross(Pair::of(0, 2), Pair::of(1, 3)),
+        points.cross(Pair::of(0, 2), Pair::of(5, 6)),
+        points.cross(Pair::of(0, 2), Pair::of(1, 6)),
+    ];
+    assert_eq!(rt; across, [true, true, false]);
+    assert_eq!(rt; points.first_between(Pair::of(0, 2)), Some(4));
+    assert!(rt; points.is_border(Pair::of(0, 1)) && !points.is_border(Pair::of(0, 2)));
+    let needs = [points.in_need(4, 0, 2), points.in_need(4, 0, 5)];
+    assert_eq!(rt; needs, [true, false]);
+    let steps = [points.border_after(3), points.border_after(4)];
+    assert_eq!(rt; steps, [Some(0), None]);
     Ok(())
 }
 

@@ -8,7 +8,7 @@ use Rattle.plane.specs.declared.coordinates.Turn.TheVariants.{Left}
 use Rattle.plane.specs.Geometry.{point}
 use Rattle.plane.specs.Hull.{IsBorderStep}
 use Rattle.plane.specs.Accepted.{AreAccepted}
-use Rattle.plane.proofs.Outermost.{border_of_left, step_of_border, inner_by_steps, not_inner_left}
+use Rattle.plane.proofs.laws.Border.{border_of_left, step_of_border, inner_by_steps, not_inner_left}
 use Rattle.plane_laws.specs.Order.{IsBefore}
 use Rattle.plane_laws.proofs.Between.{by_order}
 use Rattle.border.specs.Cycle.{at, after, IsBorderCycle}

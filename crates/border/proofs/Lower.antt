@@ -5,10 +5,11 @@ use Rattle.std.proofs.lemmas.Int.{ints}
 use Rattle.std.proofs.Math.IntN.{*ℤ_comm}
 use Rattle.plane.specs.declared.coordinates.Point.{Point}
 use Rattle.plane.specs.Geometry.{area}
-use Rattle.plane.proofs.Determinant.{mul_differences}
+use Rattle.number_laws.proofs.Products.{mul_differences}
+use Rattle.number_laws.proofs.Crosses.{cross}
+use Rattle.number_laws.proofs.Signs.{by_sign, zero_left}
 use Rattle.plane_laws.specs.Order.{IsBefore}
-use Rattle.plane_laws.proofs.Products.{cross}
-use Rattle.plane_laws.proofs.Steps.{by_sign, turn_weak, turn_first, nil_left}
+use Rattle.plane_laws.proofs.Steps.{turn_weak, turn_first}
 use Rattle.plane_laws.proofs.Orientations.{ahead, in_line}
 use Rattle.plane_laws.proofs.Between.{by_order}
 
@@ -151,7 +152,7 @@ best P n v m (suc k) hm vm hk =
     (λ kv. done w (keep P n v k w so (λ a. absurd (not_back (P v) (P k) a kv)) (λ a b z. not_back (P v) (P k) a kv)))
 
 nothing : (ux uy vx vy : ℤ) → ux ≡ pos 0 → uy ≡ pos 0 → cross ux uy vx vy ≡ pos 0
-nothing ux uy vx vy ex ey = let a = nil_left ux vy ex in let b = nil_left uy vx ey in omega (arith, ints)
+nothing ux uy vx vy ex ey = let a = zero_left ux vy ex in let b = zero_left uy vx ey in omega (arith, ints)
 
 -- A lower step leads on from v where some point comes after v, and v is the first of all or a lower step leads to it.
 pub leads_on : (P : ℕ → Point) (n v m : ℕ) → m < n → v < n → IsBefore (P v) (P m) → ((p : ℕ) → p < n → ¬ IsBefore (P p) (P v)) ⊎ ((u : ℕ) × IsLower P n u v) → (w : ℕ) × IsLower P n v w

@@ -2,16 +2,16 @@
 use Rattle.std.proofs.Common.{◌≡◌, ◌≢◌, ℕ, ◌<◌, Bool, true, false, List, length, ℤ, pos, ◌-ℤ◌, ◌*ℤ◌, neg_ℤ, ◌<ℤ◌, ◌≤ℤ◌, ◌⊎◌, inl, inr, arith, sym, ap, refl}
 use Rattle.std.proofs.lemmas.Int.{ints}
 use Rattle.std.proofs.lemmas.Bool.{cases_lt}
-use Rattle.plane.proofs.Line.{same_point}
+use Rattle.plane.proofs.laws.Line.{same_point}
+use Rattle.number_laws.proofs.Products.{neg_mul, mul_neg}
+use Rattle.plane.proofs.laws.Area.{area_back}
+use Rattle.plane.proofs.laws.Along.{between_swap, one_between, other_side}
+use Rattle.plane.proofs.laws.Border.{points_differ, not_all_in_line, clear_back}
 use Rattle.plane.specs.declared.coordinates.Point.{Point}
 use Rattle.plane.specs.declared.coordinates.Turn.TheVariants.{Left, Right}
 use Rattle.plane.specs.Geometry.{point, area, orientation, LiesBetween, IsBorderPair}
 use Rattle.plane.specs.Hull.{IsBorderStep}
 use Rattle.plane.specs.Accepted.{AreAccepted}
-use Rattle.plane.proofs.Determinant.{neg_mul, mul_neg}
-use Rattle.plane.proofs.Area.{area_back}
-use Rattle.plane.proofs.Along.{between_swap, one_between, other_side}
-use Rattle.plane.proofs.Outermost.{points_differ, not_all_in_line, clear_back}
 use Rattle.plane_laws.specs.Order.{IsBefore}
 use Rattle.plane_laws.proofs.Between.{between_is_amid, amid_is_between}
 use Rattle.border.specs.Walk.{turned, seen}

@@ -7,14 +7,12 @@ use Rattle.std.proofs.lemmas.List.Elements.{All-nil, All-cons, All-head, All-tai
 use Rattle.plane.specs.declared.coordinates.Point.{Point}
 use Rattle.plane.specs.Geometry.{point, area, scalar, orientation, IsBetween, IsInNeed}
 use Rattle.plane.specs.Accepted.{AreApart}
-use Rattle.plane.proofs.Determinant.{mul_neg, neg_mul}
-use Rattle.plane.proofs.Area.{area_swap, area_back}
-use Rattle.plane.proofs.Along.{no_area, other_side}
-use Rattle.plane.proofs.Outermost.{points_differ}
-use Rattle.plane.proofs.Signs.{negative_or, positive_negative, zero_right}
-use Rattle.plane_laws.proofs.Products.{mul_weak}
+use Rattle.number_laws.proofs.Products.{mul_neg, neg_mul}
+use Rattle.plane.proofs.laws.Area.{area_swap, area_back, area_first}
+use Rattle.plane.proofs.laws.Along.{other_side}
+use Rattle.plane.proofs.laws.Border.{points_differ}
+use Rattle.number_laws.proofs.Signs.{negative_or, positive_negative, zero_right, mul_weak, by_sign}
 use Rattle.plane_laws.proofs.Separation.{weigh}
-use Rattle.plane_laws.proofs.Steps.{by_sign}
 use Rattle.cp_judge.specs.Ends.{AreOthers, IsMetAmong, MeetsNeedsAmong}
 use Rattle.cp_judge.proofs.Direction.{one_direction, left_along, opposite_along}
 
@@ -70,7 +68,7 @@ either_all P Q (x ∷ xs) h = elim (All-head (λ x. P ⊎ Q x) x xs h) [
 further_right : (p q m r s : Point) → area p q m <ℤ pos 0 → area p q r <ℤ pos 0 → area p q s <ℤ pos 0 → area p m s ≤ℤ pos 0 → pos 0 <ℤ area p m r → area p r s ≤ℤ pos 0
 further_right p q m r s hm hr hs ms mr =
     let e = weigh p q p m r s in
-    let a = zero_right (area m r s) (area p q p) (no_area p q) in
+    let a = zero_right (area m r s) (area p q p) (area_first p q) in
     let b = mul_weak (neg_ℤ (area p m s)) (neg_ℤ (area p q r)) (omega (arith, ints)) (omega (arith, ints)) in
     let f = mul_neg (neg_ℤ (area p m s)) (area p q r) in
     let g = neg_mul (area p m s) (area p q r) in

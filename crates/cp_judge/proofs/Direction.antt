@@ -4,11 +4,10 @@ use Rattle.std.proofs.lemmas.Int.{ints}
 use Rattle.std.proofs.Math.IntN.{*ℤ_comm}
 use Rattle.plane.specs.declared.coordinates.Point.{Point}
 use Rattle.plane.specs.Geometry.{area, scalar, LiesBetween}
-use Rattle.plane.proofs.Determinant.{mul_add, mul_difference, add_mul, mul_assoc, zero_factor}
-use Rattle.plane.proofs.Signs.{positive_positive, positive_negative, negative_negative, zero_left, zero_right, difference_zero}
-use Rattle.plane.proofs.Area.{area_back}
-use Rattle.plane.proofs.Line.{same_point}
-use Rattle.plane_laws.proofs.Steps.{by_sign, cancel_strict}
+use Rattle.number_laws.proofs.Products.{mul_add, mul_sub, add_mul, mul_assoc, zero_factor}
+use Rattle.number_laws.proofs.Signs.{positive_positive, positive_negative, negative_negative, zero_left, zero_right, difference_zero, by_sign, cancel_strict}
+use Rattle.plane.proofs.laws.Area.{area_back}
+use Rattle.plane.proofs.laws.Line.{same_point}
 
 -- the step from p to m, k times, is the step from p to q, n times, and both numbers are positive
 pub record IsAlong (k n : ℤ) (p q m : Point) : Type 0 where
@@ -68,10 +67,10 @@ along_area : (k n : ℤ) (p q m r : Point) → IsAlong k n p q m → k *ℤ area
 unfolding area
 along_area k n p q m r h =
     let rx = r.x -ℤ p.x in let ry = r.y -ℤ p.y in
-    mul_difference k ((m.x -ℤ p.x) *ℤ ry) ((m.y -ℤ p.y) *ℤ rx)
+    mul_sub k ((m.x -ℤ p.x) *ℤ ry) ((m.y -ℤ p.y) *ℤ rx)
     ∙ ap (λ z. z -ℤ k *ℤ ((m.y -ℤ p.y) *ℤ rx)) (carried k (m.x -ℤ p.x) n (q.x -ℤ p.x) ry h.across)
     ∙ ap (λ z. n *ℤ ((q.x -ℤ p.x) *ℤ ry) -ℤ z) (carried k (m.y -ℤ p.y) n (q.y -ℤ p.y) rx h.upward)
-    ∙ sym (mul_difference n ((q.x -ℤ p.x) *ℤ ry) ((q.y -ℤ p.y) *ℤ rx))
+    ∙ sym (mul_sub n ((q.x -ℤ p.x) *ℤ ry) ((q.y -ℤ p.y) *ℤ rx))
 
 along_scalar : (k n : ℤ) (p q m r : Point) → IsAlong k n p q m → k *ℤ scalar p m r ≡ n *ℤ scalar p q r
 unfolding scalar

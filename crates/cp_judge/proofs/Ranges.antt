@@ -11,7 +11,7 @@ use Rattle.std.proofs.lemmas.List.Sorted.{All-permutation, Contains-permutation,
 use Rattle.plane.specs.declared.coordinates.Point.{Point}
 use Rattle.plane.specs.declared.segment.Pair.{Pair}
 use Rattle.plane.specs.Geometry.{point}
-use Rattle.plane.proofs.Quadruple.{AreBelow, not_below_across}
+use Rattle.plane.proofs.laws.Quadruple.{AreBelow, not_below_across}
 use Rattle.cp_judge.specs.declared.crossing.Span.{Span}
 use Rattle.cp_judge.specs.Violation.{StandsAt, AreCrossingAt}
 use Rattle.cp_judge.specs.Spans.{span, HasRange, IsSpan, AreSpans, AreByLeft, IsUpToCrossing, CrossNoneBefore}

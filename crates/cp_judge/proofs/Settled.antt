@@ -11,7 +11,7 @@ use Rattle.cp_judge.specs.declared.answer.Judgement.{Judgement}
 use Rattle.cp_judge.specs.declared.answer.Judgement.TheVariants.{Convex, Doubled, NotClear, Crossing, MissingBorder, Unmet}
 use Rattle.cp_judge.specs.Violation.{StandsAt, IsRepeatedAt, IsDoubled, IsUnclearAt, IsNotClear, AreCrossingAt, IsCrossing, IsMissing, IsMissingBorder, IsUnmetAt, HasUnmet, IsUnmet}
 use Rattle.cp_judge.specs.Judgement.{IsJudgement}
-use Rattle.plane.proofs.Pairs.{pair_same}
+use Rattle.plane.proofs.laws.Pairs.{pair_same}
 use Rattle.cp_judge.proofs.Items.{stands_same}
 
 pub least_same : (P : ℕ → Type 0) (n k m : ℕ) → IsLeast P n k → IsLeast P n m → k ≡ m

@@ -8,8 +8,8 @@ use Rattle.plane.specs.declared.bounding_box.Interval.{Interval}
 use Rattle.plane.specs.declared.bounding_box.BoundingBox.{BoundingBox}
 use Rattle.plane.specs.Geometry.{LiesBetween, DoCross}
 use Rattle.plane.specs.Boxes.{IsIntervalOf, IsBoxOf, IsInInterval, IsInBox, DoOverlap, DoMeet}
-use Rattle.plane.proofs.Along.{IsInRange, range_across, range_upward}
-use Rattle.plane.proofs.Quadruple.{AreBelow, not_below_across, not_below_upward}
+use Rattle.plane.proofs.laws.Along.{IsInRange, range_across, range_upward}
+use Rattle.plane.proofs.laws.Quadruple.{AreBelow, not_below_across, not_below_upward}
 
 -- what a call shows of 64-bit numbers, said of the numbers themselves
 pub plain_interval : (i : Interval) (a b : ℤ) → SFits w64 a → SFits w64 b → IsIntervalOf i (to_z w64 (of_z w64 a)) (to_z w64 (of_z w64 b)) → IsIntervalOf i a b

@@ -9,13 +9,11 @@ use Rattle.plane.specs.Geometry.{point, area}
 use Rattle.plane.specs.Accepted.{AreAccepted}
 use Rattle.plane.specs.Hull.{IsOnSide}
 use Rattle.plane.specs.Walks.{IsStrictlyInTriangle, HasNoStep}
-use Rattle.plane.proofs.Determinant.{mul_add, mul_difference, mul_assoc, mul_neg, swap_middle}
-use Rattle.plane.proofs.Signs.{negative_or, positive_positive, zero_right}
-use Rattle.plane.proofs.Area.{area_cycle}
-use Rattle.plane.proofs.Line.{collinear}
-use Rattle.plane.proofs.Along.{no_area}
-use Rattle.plane.proofs.Quadruple.{difference_times}
-use Rattle.plane.proofs.Outermost.{points_differ}
+use Rattle.number_laws.proofs.Products.{mul_add, mul_sub, mul_assoc, mul_neg, mul_left_comm, sub_mul}
+use Rattle.number_laws.proofs.Signs.{negative_or, positive_positive, zero_right}
+use Rattle.plane.proofs.laws.Area.{area_cycle, area_first}
+use Rattle.plane.proofs.laws.Line.{collinear}
+use Rattle.plane.proofs.laws.Border.{points_differ}
 
 rotate : (a b c : ℤ) → (a *ℤ b) *ℤ c ≡ (b *ℤ c) *ℤ a
 rotate a b c = mul_assoc a b c ∙ *ℤ_comm a (b *ℤ c)
@@ -23,15 +21,15 @@ rotate a b c = mul_assoc a b c ∙ *ℤ_comm a (b *ℤ c)
 -- three numbers, each times the cross product of the other two steps, cancel
 across_cancels : (ax ay bx by cx cy : ℤ) → (bx *ℤ cy -ℤ by *ℤ cx) *ℤ ax +ℤ ((cx *ℤ ay -ℤ cy *ℤ ax) *ℤ bx +ℤ (ax *ℤ by -ℤ ay *ℤ bx) *ℤ cx) ≡ pos 0
 across_cancels ax ay bx by cx cy =
-    omega (arith, ints, difference_times (bx *ℤ cy) (by *ℤ cx) ax, difference_times (cx *ℤ ay) (cy *ℤ ax) bx, difference_times (ax *ℤ by) (ay *ℤ bx) cx, rotate bx cy ax, rotate ax by cx, rotate cx ay bx)
+    omega (arith, ints, sub_mul (bx *ℤ cy) (by *ℤ cx) ax, sub_mul (cx *ℤ ay) (cy *ℤ ax) bx, sub_mul (ax *ℤ by) (ay *ℤ bx) cx, rotate bx cy ax, rotate ax by cx, rotate cx ay bx)
 
 upward_cancels : (ax ay bx by cx cy : ℤ) → (bx *ℤ cy -ℤ by *ℤ cx) *ℤ ay +ℤ ((cx *ℤ ay -ℤ cy *ℤ ax) *ℤ by +ℤ (ax *ℤ by -ℤ ay *ℤ bx) *ℤ cy) ≡ pos 0
 upward_cancels ax ay bx by cx cy =
-    omega (arith, ints, difference_times (bx *ℤ cy) (by *ℤ cx) ay, difference_times (cx *ℤ ay) (cy *ℤ ax) by, difference_times (ax *ℤ by) (ay *ℤ bx) cy, rotate ay bx cy, rotate by cx ay, rotate cy ax by)
+    omega (arith, ints, sub_mul (bx *ℤ cy) (by *ℤ cx) ay, sub_mul (cx *ℤ ay) (cy *ℤ ax) by, sub_mul (ax *ℤ by) (ay *ℤ bx) cy, rotate ay bx cy, rotate by cx ay, rotate cy ax by)
 
 scaled_cross : (m wx wy ax ay : ℤ) → m *ℤ (wx *ℤ ay -ℤ wy *ℤ ax) ≡ wx *ℤ (m *ℤ ay) -ℤ wy *ℤ (m *ℤ ax)
 scaled_cross m wx wy ax ay =
-    mul_difference m (wx *ℤ ay) (wy *ℤ ax) ∙ ap (λ x. x -ℤ m *ℤ (wy *ℤ ax)) (swap_middle m wx ay) ∙ ap (λ x. wx *ℤ (m *ℤ ay) -ℤ x) (swap_middle m wy ax)
+    mul_sub m (wx *ℤ ay) (wy *ℤ ax) ∙ ap (λ x. x -ℤ m *ℤ (wy *ℤ ax)) (mul_left_comm m wx ay) ∙ ap (λ x. wx *ℤ (m *ℤ ay) -ℤ x) (mul_left_comm m wy ax)
 
 mul_three : (w x y z : ℤ) → x +ℤ (y +ℤ z) ≡ pos 0 → w *ℤ x +ℤ (w *ℤ y +ℤ w *ℤ z) ≡ pos 0
 mul_three w x y z h = omega (arith, ints, mul_add w x (y +ℤ z), mul_add w y z, zero_right w (x +ℤ (y +ℤ z)) h)
@@ -83,5 +81,5 @@ pub no_step_inside : (S : List Point) (v a b c : ℕ) → AreAccepted S → v < 
 no_step_inside S v a b c accepted hv ha hb hc inside side w step =
     let at_a = corner_on_line side (point S v) (point S w) (point S a) (point S b) (point S c) inside.0 inside.1 inside.2 (step.all a ha) (step.all b hb) (step.all c hc) in
     let at_b = corner_on_line side (point S v) (point S w) (point S b) (point S c) (point S a) inside.1 inside.2 inside.0 (step.all b hb) (step.all c hc) (step.all a ha) in
-    let flat = collinear (point S v) (point S w) (point S a) (point S b) (point S v) (points_differ S v w accepted.apart hv step.within (λ e. step.apart (sym e))) at_a at_b (no_area (point S v) (point S w)) in
+    let flat = collinear (point S v) (point S w) (point S a) (point S b) (point S v) (points_differ S v w accepted.apart hv step.within (λ e. step.apart (sym e))) at_a at_b (area_first (point S v) (point S w)) in
     omega (arith, ints, inside.0, flat)

@@ -1,12 +1,6 @@
-pub mod Determinant
+pub mod laws
 pub mod Wide
-pub mod Line
-pub mod Signs
-pub mod Area
-pub mod Along
 pub mod Outermost
-pub mod Quadruple
-pub mod Pairs
 pub mod Rising
 pub mod Enclosed
 pub mod Boxed

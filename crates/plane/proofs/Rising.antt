@@ -1,25 +1,19 @@
 -- A list has no two equal points exactly where its points, put in order, rise strictly.
-use Rattle.std.proofs.Common.{◌≡◌, ◌≢◌, ◌<◌, ◌+◌, List, length, get_or, Bool, true, false, true≢false, Ordering, Less, Equal, Greater, is_lt, int_cmp, refl, IsTrue, ◌↔◌, rules, sym, ◌∙◌, arith}
+use Rattle.std.proofs.Common.{◌≡◌, ◌≢◌, ◌<◌, ◌+◌, List, length, get_or, Bool, true, false, true≢false, Ordering, Less, Equal, Greater, is_lt, refl, IsTrue, ◌↔◌, rules, sym, ◌∙◌, arith}
 use Rattle.std.specs.List.{AllAdjacentBelow, IsAllAdjacentAnswer, IsDistinct}
 use Rattle.std.specs.List.Sorted.{IsPermutation, IsSorted}
-use Rattle.std.specs.Cmp.{IsTotalOrder, IsEquivalence}
+use Rattle.std.specs.Cmp.{IsEquivalence}
 use Rattle.std.proofs.lemmas.List.{get_or_default}
-use Rattle.std.specs.Ordering.{ordering_then, eq_by_cmp}
-use Rattle.std.proofs.lemmas.Cmp.{then_total, on_total, int_cmp_total, eq_by_cmp_equiv}
+use Rattle.std.specs.Ordering.{eq_by_cmp}
+use Rattle.std.proofs.lemmas.Cmp.{eq_by_cmp_equiv}
 use Rattle.std.proofs.lemmas.List.Sorted.{IsPermutation-sym}
 use Rattle.std.proofs.lemmas.Map.Keys.{IsDistinct-from_apart, IsDistinct-from_sorted, IsDistinct-IsPermutation, apart_from_distinct, sorted_from_all_adjacent}
 use Rattle.std.proofs.lemmas.Int.{ints}
 use Rattle.plane.specs.declared.coordinates.Point.{Point}
 use Rattle.plane.specs.Geometry.{point}
 use Rattle.plane.specs.Accepted.{AreApart}
-use Rattle.plane.proofs.Line.{same_point}
-
--- the order by x, then by y
-abbrev pub lex : (p q : Point) → Ordering
-lex p q = ordering_then (int_cmp p.x q.x) (int_cmp p.y q.y)
-
-pub lex_total : IsTotalOrder lex
-lex_total = then_total (on_total (λ (p : Point). p.x) int_cmp_total) (on_total (λ (p : Point). p.y) int_cmp_total)
+use Rattle.plane.proofs.laws.Line.{same_point}
+use Rattle.plane.proofs.laws.Order.{lex, lex_total}
 
 lex_equal : IsEquivalence (eq_by_cmp lex)
 lex_equal = eq_by_cmp_equiv lex_total

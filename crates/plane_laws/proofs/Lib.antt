@@ -1,4 +1,3 @@
-pub mod Products
 pub mod Steps
 pub mod Orientations
 pub mod Between

@@ -5,19 +5,13 @@ use Rattle.std.proofs.Math.IntN.{*ℤ_comm}
 use Rattle.std.proofs.lemmas.Int.{ints}
 use Rattle.plane.specs.declared.coordinates.Point.{Point}
 use Rattle.plane.specs.Geometry.{area}
-use Rattle.plane.proofs.Determinant.{mul_add, mul_neg, mul_differences, det_cycle}
+use Rattle.number_laws.proofs.Products.{mul_add, mul_neg, mul_differences}
+use Rattle.number_laws.proofs.Crosses.{cross, three_across}
+use Rattle.number_laws.proofs.Signs.{cancel_weak, zero_left, zero_right}
 use Rattle.plane_laws.specs.Order.{IsBefore, AreInOrder}
-use Rattle.plane_laws.proofs.Products.{cross, three}
-use Rattle.plane_laws.proofs.Steps.{Ahead, turn_weak, turn_first, turn_last, cancel_weak, nil_left, nil_right}
-
-pub area_cycle : (p q r : Point) → area q r p ≡ area p q r
-unfolding area
-area_cycle p q r = sym (det_cycle p.x p.y q.x q.y r.x r.y)
-
-pub area_swap : (p q r : Point) → area q p r ≡ neg_ℤ (area p q r)
-unfolding area
-area_swap p q r =
-    omega (arith, ints, mul_differences p.x q.x r.y q.y, mul_differences p.y q.y r.x q.x, mul_differences q.x p.x r.y p.y, mul_differences q.y p.y r.x p.x)
+use Rattle.plane_laws.proofs.Steps.{Ahead, turn_weak, turn_first, turn_last}
+use Rattle.number_laws.proofs.Signs.{zero_of_weak}
+use Rattle.number_laws.proofs.Crosses.{cross_back}
 
 -- the area by the steps from p to q and from q to r
 area_steps : (p q r : Point) → area p q r ≡ cross (q.x -ℤ p.x) (q.y -ℤ p.y) (r.x -ℤ q.x) (r.y -ℤ q.y)
@@ -57,9 +51,6 @@ pub ahead : (p q : Point) → IsBefore p q → Ahead (q.x -ℤ p.x) (q.y -ℤ p.
 ahead p q (inl h) = inl (omega (arith, ints))
 ahead p q (inr h) = inr (omega (arith, ints, h.0), omega (arith, ints, h.1))
 
-cross_back : (ax ay bx by : ℤ) → cross bx by ax ay ≡ neg_ℤ (cross ax ay bx by)
-cross_back ax ay bx by = omega (arith, ints, *ℤ_comm ax by, *ℤ_comm ay bx)
-
 numbers : (a b c d X Y Z : ℤ) → a ≡ X → d ≡ Y → b ≡ a +ℤ Z → a +ℤ c ≡ b +ℤ d
     → (pos 0 ≤ℤ X → pos 0 ≤ℤ Y → pos 0 ≤ℤ Z) → (pos 0 <ℤ X → pos 0 ≤ℤ Y → pos 0 <ℤ Z) → (pos 0 ≤ℤ X → pos 0 <ℤ Y → pos 0 <ℤ Z)
     → (X ≤ℤ pos 0 → Y ≤ℤ pos 0 → Z ≤ℤ pos 0) → (X <ℤ pos 0 → Y ≤ℤ pos 0 → Z <ℤ pos 0) → (X ≤ℤ pos 0 → Y <ℤ pos 0 → Z <ℤ pos 0)
@@ -88,28 +79,25 @@ in_order p q r s hp hq hr =
     (λ g h. let t : pos 0 <ℤ cross wx wy ux uy = turn_last wx wy vx vy ux uy w v u (omega (arith, ints, cross_back vx vy wx wy)) (omega (arith, ints, cross_back ux uy vx vy)) in omega (arith, ints, cross_back ux uy wx wy))
     (λ g h. let t : pos 0 <ℤ cross wx wy ux uy = turn_first wx wy vx vy ux uy w v u (omega (arith, ints, cross_back vx vy wx wy)) (omega (arith, ints, cross_back ux uy vx vy)) in omega (arith, ints, cross_back ux uy wx wy))
 
-zero_weak : (x : ℤ) → pos 0 ≤ℤ x → pos 0 ≤ℤ neg_ℤ x → x ≡ pos 0
-zero_weak x g h = omega (arith, ints)
-
 zero_factor : (a b : ℤ) → pos 0 <ℤ a → a *ℤ b ≡ pos 0 → b ≡ pos 0
 zero_factor a b ha h =
-    zero_weak b (cancel_weak a b ha (omega (arith, ints))) (cancel_weak a (neg_ℤ b) ha (omega (arith, ints, mul_neg a b)))
+    zero_of_weak b (cancel_weak a b ha (omega (arith, ints))) (cancel_weak a (neg_ℤ b) ha (omega (arith, ints, mul_neg a b)))
 
 -- two steps in line with a third are in line
 in_line_steps : (ux uy vx vy wx wy : ℤ) → Ahead vx vy → cross ux uy vx vy ≡ pos 0 → cross vx vy wx wy ≡ pos 0 → cross ux uy wx wy ≡ pos 0
 in_line_steps ux uy vx vy wx wy (inl hv) hx hy =
-    zero_factor vx (cross ux uy wx wy) hv (omega (arith, ints, three ux uy vx vy wx wy, nil_right ux (cross vx vy wx wy) hy, nil_right wx (cross ux uy vx vy) hx))
+    zero_factor vx (cross ux uy wx wy) hv (omega (arith, ints, three_across ux uy vx vy wx wy, zero_right ux (cross vx vy wx wy) hy, zero_right wx (cross ux uy vx vy) hx))
 in_line_steps ux uy vx vy wx wy (inr hv) hx hy =
-    let u : ux ≡ pos 0 = zero_factor vy ux hv.1 (omega (arith, ints, nil_right uy vx hv.0, *ℤ_comm vy ux)) in
-    let w : wx ≡ pos 0 = zero_factor vy wx hv.1 (omega (arith, ints, nil_left vx wy hv.0)) in
-    omega (arith, ints, nil_left ux wy u, nil_right uy wx w)
+    let u : ux ≡ pos 0 = zero_factor vy ux hv.1 (omega (arith, ints, zero_right uy vx hv.0, *ℤ_comm vy ux)) in
+    let w : wx ≡ pos 0 = zero_factor vy wx hv.1 (omega (arith, ints, zero_left vx wy hv.0)) in
+    omega (arith, ints, zero_left ux wy u, zero_right uy wx w)
 
 -- points in line with two others are in line
 pub in_line : (p q a b : Point) → IsBefore p q → area p q a ≡ pos 0 → area p q b ≡ pos 0 → area p a b ≡ pos 0
 unfolding area
 in_line p q a b hpq ha hb =
     in_line_steps (a.x -ℤ p.x) (a.y -ℤ p.y) (q.x -ℤ p.x) (q.y -ℤ p.y) (b.x -ℤ p.x) (b.y -ℤ p.y) (ahead p q hpq)
-    (cross_back (q.x -ℤ p.x) (q.y -ℤ p.y) (a.x -ℤ p.x) (a.y -ℤ p.y) ∙ ap neg_ℤ ha) hb
+    (cross_back (a.x -ℤ p.x) (a.y -ℤ p.y) (q.x -ℤ p.x) (q.y -ℤ p.y) ∙ ap neg_ℤ ha) hb
 
 pub all_in_line : (p q a b c : Point) → IsBefore p q → area p q a ≡ pos 0 → area p q b ≡ pos 0 → area p q c ≡ pos 0 → area a b c ≡ pos 0
 all_in_line p q a b c hpq ha hb hc =

@@ -1,22 +1,25 @@
 -- Segments on two sides of a line don't cross.
-use Rattle.std.proofs.Common.{◌≡◌, ◌≢◌, ℤ, pos, ◌+ℤ◌, ◌-ℤ◌, ◌*ℤ◌, neg_ℤ, arith, sym, ◌∙◌, ap, ap₂, inl, inr, ◌⊎◌}
+use Rattle.std.proofs.Common.{◌≡◌, ◌≢◌, ℤ, pos, ◌+ℤ◌, ◌-ℤ◌, ◌*ℤ◌, neg_ℤ, arith, sym, ◌∙◌, ap, inl, inr, ◌⊎◌}
 use Rattle.std.specs.Prelude.{◌<ℤ◌, ◌≤ℤ◌}
 use Rattle.std.proofs.Math.IntN.{*ℤ_comm}
 use Rattle.std.proofs.lemmas.Int.{ints}
 use Rattle.plane.specs.declared.coordinates.Point.{Point}
 use Rattle.plane.specs.Geometry.{area, AreOpposite}
-use Rattle.plane.proofs.Determinant.{mul_add, mul_neg}
+use Rattle.number_laws.proofs.Products.{neg_mul, mul_add, mul_neg, mul_sub, sub_mul, add_mul, mul_left_comm}
+use Rattle.number_laws.proofs.Crosses.{cross, three_across}
+use Rattle.number_laws.proofs.Signs.{mul_weak, positive_positive, by_sign, zero_left}
+use Rattle.plane.proofs.laws.Area.{area_back, area_cycle, area_first, area_second}
 use Rattle.plane_laws.specs.Order.{IsBefore}
-use Rattle.plane_laws.proofs.Products.{cross, three, mul_sub, sub_mul, add_mul, left_comm, mul_weak, mul_strict}
-use Rattle.plane_laws.proofs.Steps.{by_sign, nil_left}
 use Rattle.plane_laws.proofs.Between.{by_order}
-use Rattle.plane_laws.proofs.Orientations.{det, area_sides, area_four, area_swap, area_cycle, all_in_line}
+use Rattle.plane_laws.proofs.Orientations.{det, area_sides, area_four, all_in_line}
+use Rattle.plane.proofs.laws.Opposite.{not_opposite_zero, opposite_same}
+use Rattle.plane.proofs.laws.Line.{same_point}
 
 -- two steps' products with a third: across, and upward
 across : (a b c : Point) → det b c *ℤ a.x +ℤ det a b *ℤ c.x ≡ det a c *ℤ b.x
 unfolding det
 across a b c =
-    omega (arith, ints, three a.x a.y b.x b.y c.x c.y, *ℤ_comm (cross b.x b.y c.x c.y) a.x, *ℤ_comm (cross a.x a.y b.x b.y) c.x, *ℤ_comm (cross a.x a.y c.x c.y) b.x)
+    omega (arith, ints, three_across a.x a.y b.x b.y c.x c.y, *ℤ_comm (cross b.x b.y c.x c.y) a.x, *ℤ_comm (cross a.x a.y b.x b.y) c.x, *ℤ_comm (cross a.x a.y c.x c.y) b.x)
 
 turned_cross : (ax ay bx by : ℤ) → cross ay ax by bx ≡ neg_ℤ (cross ax ay bx by)
 turned_cross ax ay bx by = omega (arith, ints)
@@ -27,7 +30,7 @@ upward a b c =
     omega (
       arith,
       ints,
-      three a.y a.x b.y b.x c.y c.x,
+      three_across a.y a.x b.y b.x c.y c.x,
       ap (λ z. b.y *ℤ z) (turned_cross a.x a.y c.x c.y),
       mul_neg b.y (cross a.x a.y c.x c.y),
       *ℤ_comm b.y (cross a.x a.y c.x c.y),
@@ -60,7 +63,7 @@ over p q r = omega (arith, ints, mul_sub (q.x -ℤ p.x) r.y p.y, mul_sub (q.y -�
 scaled : (k f g e dx dy x y : ℤ) → f ≡ (dx *ℤ y -ℤ dy *ℤ x) -ℤ e → k *ℤ f ≡ (dx *ℤ (k *ℤ y) -ℤ dy *ℤ (k *ℤ x)) -ℤ k *ℤ e
 scaled k f g e dx dy x y h =
     ap (λ z. k *ℤ z) h ∙ mul_sub k (dx *ℤ y -ℤ dy *ℤ x) e ∙ ap (λ z. z -ℤ k *ℤ e) (mul_sub k (dx *ℤ y) (dy *ℤ x))
-    ∙ ap (λ z. (z -ℤ k *ℤ (dy *ℤ x)) -ℤ k *ℤ e) (left_comm k dx y) ∙ ap (λ z. (dx *ℤ (k *ℤ y) -ℤ z) -ℤ k *ℤ e) (left_comm k dy x)
+    ∙ ap (λ z. (z -ℤ k *ℤ (dy *ℤ x)) -ℤ k *ℤ e) (mul_left_comm k dx y) ∙ ap (λ z. (dx *ℤ (k *ℤ y) -ℤ z) -ℤ k *ℤ e) (mul_left_comm k dy x)
 
 combined : (f g h k x1 x2 x3 x4 y1 y2 y3 y4 e1 e2 e3 e4 : ℤ) → f ≡ (x1 -ℤ y1) -ℤ e1 → g ≡ (x2 -ℤ y2) -ℤ e2 → h ≡ (x3 -ℤ y3) -ℤ e3 → k ≡ (x4 -ℤ y4) -ℤ e4
     → x1 +ℤ x2 ≡ x3 +ℤ x4 → y1 +ℤ y2 ≡ y3 +ℤ y4 → e1 +ℤ e2 ≡ e3 +ℤ e4 → f +ℤ g ≡ h +ℤ k
@@ -87,12 +90,9 @@ weigh p q a b c d =
     ((q.x -ℤ p.x) *ℤ p.y -ℤ (q.y -ℤ p.y) *ℤ p.x) (q.x -ℤ p.x) (q.y -ℤ p.y) a.x a.y b.x b.y c.x c.y d.x d.y
     (omega (arith, ints, area_four a b c d)) (weigh_x a b c d) (weigh_y a b c d) (over p q a) (over p q b) (over p q c) (over p q d)
 
-zero_left : (k f : ℤ) → pos 0 <ℤ k → f ≤ℤ pos 0 → pos 0 ≤ℤ (k *ℤ f) → f ≡ pos 0
-zero_left k f hk hf h = by_sign f (λ p. absurd (omega (arith, ints))) (λ p. p)
-    (λ p. absurd (omega (arith, ints, mul_strict k (neg_ℤ f) hk (omega (arith, ints)), mul_neg k f)))
-
-negated : (k f : ℤ) → neg_ℤ k *ℤ f ≡ neg_ℤ (k *ℤ f)
-negated k f = *ℤ_comm (neg_ℤ k) f ∙ mul_neg f k ∙ ap neg_ℤ (*ℤ_comm f k)
+zero_of_scaled : (k f : ℤ) → pos 0 <ℤ k → f ≤ℤ pos 0 → pos 0 ≤ℤ (k *ℤ f) → f ≡ pos 0
+zero_of_scaled k f hk hf h = by_sign f (λ p. absurd (omega (arith, ints))) (λ p. p)
+    (λ p. absurd (omega (arith, ints, positive_positive k (neg_ℤ f) hk (omega (arith, ints)), mul_neg k f)))
 
 at_most : (k f : ℤ) → pos 0 <ℤ k → f ≤ℤ pos 0 → (k *ℤ f) ≤ℤ pos 0
 at_most k f hk hf = omega (arith, ints, mul_weak k (neg_ℤ f) (omega (arith, ints)) (omega (arith, ints)), mul_neg k f)
@@ -108,10 +108,10 @@ balance k l m n a b c d hk hl hm hn ha hb hc hd h =
     let lb : (l *ℤ b) ≤ℤ pos 0 = at_most l b hl hb in
     let mc : pos 0 ≤ℤ (m *ℤ c) = mul_weak m c (omega (arith, ints)) hc in
     let nd : pos 0 ≤ℤ (n *ℤ d) = mul_weak n d (omega (arith, ints)) hd in (
-      zero_left k a hk ha (omega (arith, ints)),
-      zero_left l b hl hb (omega (arith, ints)),
-      neg_zero c (zero_left m (neg_ℤ c) hm (omega (arith, ints)) (omega (arith, ints, mul_neg m c))),
-      neg_zero d (zero_left n (neg_ℤ d) hn (omega (arith, ints)) (omega (arith, ints, mul_neg n d))),
+      zero_of_scaled k a hk ha (omega (arith, ints)),
+      zero_of_scaled l b hl hb (omega (arith, ints)),
+      neg_zero c (zero_of_scaled m (neg_ℤ c) hm (omega (arith, ints)) (omega (arith, ints, mul_neg m c))),
+      neg_zero d (zero_of_scaled n (neg_ℤ d) hn (omega (arith, ints)) (omega (arith, ints, mul_neg n d))),
     )
 
 -- the two cases of opposite signs
@@ -120,39 +120,31 @@ crossed_first : (A B C D a b c d : ℤ) → B +ℤ D ≡ A +ℤ C → B *ℤ a +
 crossed_first A B C D a b c d hs h hA hB (inl o) ha hb hc hd = absurd (omega (arith, ints, o.0, o.1))
 crossed_first A B C D a b c d hs h hA hB (inr o) ha hb hc hd =
     balance B (neg_ℤ A) (neg_ℤ D) C a b c d hB (omega (arith, ints)) (omega (arith, ints, o.1)) o.0 ha hb hc hd
-    (omega (arith, ints, negated A b, negated D c))
+    (omega (arith, ints, neg_mul A b, neg_mul D c))
 
 crossed_second : (A B C D a b c d : ℤ) → B +ℤ D ≡ A +ℤ C → B *ℤ a +ℤ D *ℤ c ≡ A *ℤ b +ℤ C *ℤ d → pos 0 <ℤ A → B <ℤ pos 0 → AreOpposite C D
     → a ≤ℤ pos 0 → b ≤ℤ pos 0 → pos 0 ≤ℤ c → pos 0 ≤ℤ d → (a ≡ pos 0) × (b ≡ pos 0) × (c ≡ pos 0) × (d ≡ pos 0)
 crossed_second A B C D a b c d hs h hA hB (inr o) ha hb hc hd = absurd (omega (arith, ints, o.0, o.1))
 crossed_second A B C D a b c d hs h hA hB (inl o) ha hb hc hd =
     balance (neg_ℤ B) A D (neg_ℤ C) a b c d (omega (arith, ints)) hA o.1 (omega (arith, ints, o.0)) ha hb hc hd
-    (omega (arith, ints, negated B a, negated C d))
+    (omega (arith, ints, neg_mul B a, neg_mul C d))
 
 crossed : (A B C D a b c d : ℤ) → B +ℤ D ≡ A +ℤ C → B *ℤ a +ℤ D *ℤ c ≡ A *ℤ b +ℤ C *ℤ d → AreOpposite A B → AreOpposite C D
     → a ≤ℤ pos 0 → b ≤ℤ pos 0 → pos 0 ≤ℤ c → pos 0 ≤ℤ d → (a ≡ pos 0) × (b ≡ pos 0) × (c ≡ pos 0) × (d ≡ pos 0)
 crossed A B C D a b c d hs h (inl u) o = crossed_first A B C D a b c d hs h u.0 u.1 o
 crossed A B C D a b c d hs h (inr u) o = crossed_second A B C D a b c d hs h u.0 u.1 o
 
-not_opposite_zero : (x y : ℤ) → x ≡ pos 0 → ¬ AreOpposite x y
-not_opposite_zero x y e (inl h) = omega (arith, ints, h.0)
-not_opposite_zero x y e (inr h) = omega (arith, ints, h.0)
-
-opposite_same : (x y v w : ℤ) → x ≡ v → y ≡ w → AreOpposite x y → AreOpposite v w
-opposite_same x y v w e f (inl h) = inl (omega (arith, ints, h.0), omega (arith, ints, h.1))
-opposite_same x y v w e f (inr h) = inr (omega (arith, ints, h.0), omega (arith, ints, h.1))
-
 pub line : (p q a b c : Point) → IsBefore p q ⊎ IsBefore q p → area p q a ≡ pos 0 → area p q b ≡ pos 0 → area p q c ≡ pos 0 → area a b c ≡ pos 0
 line p q a b c (inl h) ha hb hc = all_in_line p q a b c h ha hb hc
 line p q a b c (inr h) ha hb hc =
-    all_in_line q p a b c h (omega (arith, ints, area_swap p q a)) (omega (arith, ints, area_swap p q b)) (omega (arith, ints, area_swap p q c))
+    all_in_line q p a b c h (omega (arith, ints, area_back p q a)) (omega (arith, ints, area_back p q b)) (omega (arith, ints, area_back p q c))
 
 -- two segments, one on each closed side of a line
 pub on_two_sides : (p q a b c d : Point) → IsBefore p q ⊎ IsBefore q p → area p q a ≤ℤ pos 0 → area p q b ≤ℤ pos 0 → pos 0 ≤ℤ area p q c → pos 0 ≤ℤ area p q d
     → ¬ (AreOpposite (area a b c) (area a b d) × AreOpposite (area c d a) (area c d b))
 on_two_sides p q a b c d hpq ha hb hc hd h =
-    let A : area c d a ≡ area a c d = area_cycle a c d in
-    let B : area c d b ≡ area b c d = area_cycle b c d in
+    let A : area c d a ≡ area a c d = sym (area_cycle a c d) in
+    let B : area c d b ≡ area b c d = sym (area_cycle b c d) in
     let z = crossed (area a c d) (area b c d) (area a b c) (area a b d) (area p q a) (area p q b) (area p q c) (area p q d)
     (omega (arith, ints, area_four a b c d)) (weigh p q a b c d) (opposite_same (area c d a) (area c d b) (area a c d) (area b c d) A B h.1) h.0 ha hb hc hd in
     not_opposite_zero (area a b c) (area a b d) (line p q a b c hpq z.0 z.1 z.2) h.0
@@ -163,10 +155,7 @@ unfolding area
 side_ends p q z h e =
     let ex : p.x ≡ q.x = ap (λ (t : Point). t.x) e in
     let ey : p.y ≡ q.y = ap (λ (t : Point). t.y) e in
-    omega (arith, ints, nil_left (q.x -ℤ p.x) (z.y -ℤ p.y) (omega (arith, ints)), nil_left (q.y -ℤ p.y) (z.x -ℤ p.x) (omega (arith, ints)))
-
-same_point : (p q : Point) → p.x ≡ q.x → p.y ≡ q.y → p ≡ q
-same_point p q ex ey = ap₂ (λ (x y : ℤ). (let r : Point = record { x = x; y = y } in r)) ex ey
+    omega (arith, ints, zero_left (q.x -ℤ p.x) (z.y -ℤ p.y) (omega (arith, ints)), zero_left (q.y -ℤ p.y) (z.x -ℤ p.x) (omega (arith, ints)))
 
 -- one of two different points comes before the other
 pub one_first : (p q : Point) → p ≢ q → IsBefore p q ⊎ IsBefore q p
@@ -178,22 +167,12 @@ zero_weakly x h = omega (arith, ints)
 weakly : (x : ℤ) → x <ℤ pos 0 → x ≤ℤ pos 0
 weakly x h = omega (arith, ints)
 
-zero_own : (x : ℤ) → x ≡ neg_ℤ x → x ≡ pos 0
-zero_own x h = omega (arith, ints)
-
--- the ends of a side are on its line
-pub first_on : (p q : Point) → area p q p ≡ pos 0
-first_on p q = area_cycle p p q ∙ zero_own (area p p q) (area_swap p p q)
-
-pub second_on : (p q : Point) → area p q q ≡ pos 0
-second_on p q = sym (area_cycle p q q) ∙ zero_own (area q q p) (area_swap q q p)
-
 pub beyond_first : (p q z k l : Point) → area p q z <ℤ pos 0 → pos 0 ≤ℤ area p q k → pos 0 ≤ℤ area p q l
     → ¬ (AreOpposite (area p z k) (area p z l) × AreOpposite (area k l p) (area k l z))
 beyond_first p q z k l hz hk hl =
-    on_two_sides p q p z k l (one_first p q (side_ends p q z hz)) (zero_weakly (area p q p) (first_on p q)) (weakly (area p q z) hz) hk hl
+    on_two_sides p q p z k l (one_first p q (side_ends p q z hz)) (zero_weakly (area p q p) (area_first p q)) (weakly (area p q z) hz) hk hl
 
 pub beyond_second : (p q z k l : Point) → area p q z <ℤ pos 0 → pos 0 ≤ℤ area p q k → pos 0 ≤ℤ area p q l
     → ¬ (AreOpposite (area q z k) (area q z l) × AreOpposite (area k l q) (area k l z))
 beyond_second p q z k l hz hk hl =
-    on_two_sides p q q z k l (one_first p q (side_ends p q z hz)) (zero_weakly (area p q q) (second_on p q)) (weakly (area p q z) hz) hk hl
+    on_two_sides p q q z k l (one_first p q (side_ends p q z hz)) (zero_weakly (area p q q) (area_second p q)) (weakly (area p q z) hz) hk hl

@@ -5,7 +5,7 @@ use Rattle.std.proofs.lemmas.Int.{ints}
 use Rattle.std.proofs.lemmas.Bool.{cases_lt}
 use Rattle.plane.specs.declared.coordinates.Point.{Point}
 use Rattle.plane.specs.Geometry.{point, area, orientation}
-use Rattle.plane.proofs.Area.{area_swap}
+use Rattle.plane.proofs.laws.Area.{area_swap}
 use Rattle.star.specs.Turn.{IsUpper, IsLower, TurnsBefore}
 use Rattle.star.specs.Stars.{Seen, IsStar, entry, around}
 use Rattle.star.proofs.Turning.{cross, Up, Down, turn_on, cross_back, neg_cross, neg_neg, up, down, not_both}

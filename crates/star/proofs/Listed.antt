@@ -12,8 +12,8 @@ use Rattle.std.proofs.lemmas.Bool.{cases_lt}
 use Rattle.plane.specs.declared.coordinates.Point.{Point}
 use Rattle.plane.specs.Geometry.{point}
 use Rattle.plane.specs.Accepted.{AreAccepted}
-use Rattle.plane.proofs.Area.{area_swap}
-use Rattle.plane.proofs.Outermost.{points_differ}
+use Rattle.plane.proofs.laws.Area.{area_swap}
+use Rattle.plane.proofs.laws.Border.{points_differ}
 use Rattle.star.specs.Turn.{TurnsBefore, IsBeforeInTurn}
 use Rattle.star.specs.Stars.{Seen, entry, around, AreInTurn, IsOrderly, StandsAt, IsFree, IsBetween}
 use Rattle.star.proofs.Turning.{not_both, before_or, before_on}

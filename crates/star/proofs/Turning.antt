@@ -6,10 +6,10 @@ use Rattle.std.proofs.Math.IntN.{*ℤ_comm}
 use mathlib.Core.Bool.{beq}
 use Rattle.plane.specs.declared.coordinates.Point.{Point}
 use Rattle.plane.specs.Geometry.{point, area}
-use Rattle.plane.proofs.Determinant.{mul_difference, swap_middle, mul_neg, neg_mul}
-use Rattle.plane.proofs.Signs.{negative_or, positive_positive, positive_negative, zero_left, zero_right}
-use Rattle.plane.proofs.Area.{area_swap}
-use Rattle.plane.proofs.Line.{same_point}
+use Rattle.number_laws.proofs.Products.{mul_sub, mul_left_comm, mul_neg, neg_mul}
+use Rattle.number_laws.proofs.Signs.{negative_or, positive_positive, positive_negative, zero_left, zero_right}
+use Rattle.plane.proofs.laws.Area.{area_swap}
+use Rattle.plane.proofs.laws.Line.{same_point}
 use Rattle.star.specs.Turn.{IsUpper, IsLower, AreInOneHalf, TurnsBefore, PointTogether, IsBeforeInTurn, IsInDirection}
 
 abbrev pub cross : (ux uy vx vy : ℤ) → ℤ
@@ -25,12 +25,12 @@ gather l m n o p q a b c = omega (arith, ints)
 -- three steps: the second's height times the cross product of the others
 three : (ux uy vx vy wx wy : ℤ) → vy *ℤ cross ux uy wx wy ≡ uy *ℤ cross vx vy wx wy +ℤ wy *ℤ cross ux uy vx vy
 three ux uy vx vy wx wy =
-    let a : vy *ℤ (ux *ℤ wy) ≡ wy *ℤ (ux *ℤ vy) = swap_middle vy ux wy ∙ ap (λ x. ux *ℤ x) (*ℤ_comm vy wy) ∙ swap_middle ux wy vy in
-    let b : vy *ℤ (uy *ℤ wx) ≡ uy *ℤ (vy *ℤ wx) = swap_middle vy uy wx in
-    let c : uy *ℤ (vx *ℤ wy) ≡ wy *ℤ (uy *ℤ vx) = ap (λ x. uy *ℤ x) (*ℤ_comm vx wy) ∙ swap_middle uy wy vx in
-    let d = mul_difference vy (ux *ℤ wy) (uy *ℤ wx) in
-    let e = mul_difference uy (vx *ℤ wy) (vy *ℤ wx) in
-    let f = mul_difference wy (ux *ℤ vy) (uy *ℤ vx) in
+    let a : vy *ℤ (ux *ℤ wy) ≡ wy *ℤ (ux *ℤ vy) = mul_left_comm vy ux wy ∙ ap (λ x. ux *ℤ x) (*ℤ_comm vy wy) ∙ mul_left_comm ux wy vy in
+    let b : vy *ℤ (uy *ℤ wx) ≡ uy *ℤ (vy *ℤ wx) = mul_left_comm vy uy wx in
+    let c : uy *ℤ (vx *ℤ wy) ≡ wy *ℤ (uy *ℤ vx) = ap (λ x. uy *ℤ x) (*ℤ_comm vx wy) ∙ mul_left_comm uy wy vx in
+    let d = mul_sub vy (ux *ℤ wy) (uy *ℤ wx) in
+    let e = mul_sub uy (vx *ℤ wy) (vy *ℤ wx) in
+    let f = mul_sub wy (ux *ℤ vy) (uy *ℤ vx) in
     d ∙ gather _ _ _ _ _ _ a b c ∙ ap (λ x. x +ℤ (wy *ℤ (ux *ℤ vy) -ℤ wy *ℤ (uy *ℤ vx))) (sym e) ∙ ap (λ x. uy *ℤ cross vx vy wx wy +ℤ x) (sym f)
 
 high : (x y : ℤ) → Up x y → pos 0 ≤ℤ y

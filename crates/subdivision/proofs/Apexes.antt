@@ -5,9 +5,8 @@ use Rattle.std.proofs.lemmas.Bool.{cases_lt}
 use Rattle.plane.specs.declared.coordinates.Point.{Point}
 use Rattle.plane.specs.declared.segment.Pair.{Pair}
 use Rattle.plane.specs.Geometry.{point, area, orientation, AreOpposite, DoCross, AreCrossing}
-use Rattle.plane.proofs.Area.{area_cycle, area_swap, area_back}
-use Rattle.plane.proofs.Along.{no_area}
-use Rattle.plane.proofs.Signs.{negative_or}
+use Rattle.plane.proofs.laws.Area.{area_cycle, area_swap, area_back, area_first}
+use Rattle.number_laws.proofs.Signs.{negative_or}
 use Rattle.partition_defs.specs.Partition.{HasEnds, Joins}
 use Rattle.partition_defs.specs.Triangulation.{IsTriangulation, IsApex}
 use Rattle.star.specs.Stars.{Seen, StandsAt, IsNext, entry, around}
@@ -56,7 +55,7 @@ none_amid S T p q a s tri apex hs join amid =
           let crossing : AreCrossing S p s q a = (inl (omega (arith, ints, amid.0), amid.1), inr (omega (arith, ints, apex.3), beyond)) in
           tri.plane e f (contains_of T e me) (contains_of T f mf) (crossing_ends S e f p s q a ends sides crossing))
       | inr rest ↦ apex.4 s hs
-          (λ h. (let z = no_area (point S p) (point S q) in positive_not (area (point S p) (point S q) (point S s)) (ap (λ i. area (point S p) (point S q) (point S i)) h ∙ z) amid.0))
+          (λ h. (let z = area_first (point S p) (point S q) in positive_not (area (point S p) (point S q) (point S s)) (ap (λ i. area (point S p) (point S q) (point S i)) h ∙ z) amid.0))
           (λ h. (let z = flat (point S p) (point S q) in positive_not (area (point S p) (point S q) (point S s)) (ap (λ i. area (point S p) (point S q) (point S i)) h ∙ z) amid.0))
           (λ h. (let z = flat (point S p) (point S a) in positive_not (area (point S p) (point S s) (point S a)) (ap (λ i. area (point S p) (point S i) (point S a)) h ∙ z) amid.1))
           (omega (arith, ints, amid.0), weak (area (point S q) (point S a) (point S s)) rest, omega (arith, ints, amid.1))

@@ -7,7 +7,7 @@ use Rattle.plane.specs.declared.segment.Pair.{Pair}
 use Rattle.star.specs.Stars.{Seen, entry}
 use Rattle.subdivision.specs.State.{star_at}
 use Rattle.subdivision.specs.Listing.{picks, IsTidy, IsPicked, HasRow, HasRows, Takes}
-use Rattle.plane.proofs.Pairs.{pair_same}
+use Rattle.plane.proofs.laws.Pairs.{pair_same}
 use Rattle.subdivision.proofs.Lists.{has_of, contains_of, has_at, has_append, append_has}
 use Rattle.subdivision.proofs.Members.{neighbour_of, has_neighbour, mark_of, has_mark}
 

@@ -8,11 +8,13 @@ use Rattle.plane.specs.declared.coordinates.Point.{Point}
 use Rattle.plane.specs.declared.segment.Pair.{Pair}
 use Rattle.plane.specs.Geometry.{point, area, scalar, LiesBetween, IsBetween, AreOpposite}
 use Rattle.plane.specs.Accepted.{AreAccepted}
-use Rattle.plane.proofs.Area.{area_back}
-use Rattle.plane.proofs.Along.{between_swap, one_between}
-use Rattle.plane.proofs.Signs.{opposite_steps, positive_positive, positive_negative, negative_positive, zero_left, zero_right}
-use Rattle.plane.proofs.Determinant.{neg_mul, mul_neg}
-use Rattle.plane.proofs.Outermost.{points_differ}
+use Rattle.plane.proofs.laws.Area.{area_back}
+use Rattle.plane.proofs.laws.Along.{between_swap, one_between}
+use Rattle.plane.proofs.laws.Opposite.{opposite_steps}
+use Rattle.number_laws.proofs.Signs.{positive_positive, positive_negative, negative_positive, zero_left, zero_right}
+use Rattle.number_laws.proofs.Products.{neg_mul, mul_neg}
+use Rattle.plane.proofs.laws.Border.{points_differ}
+use Rattle.plane.proofs.laws.Pairs.{pair_same}
 use Rattle.partition_defs.specs.Partition.{HasEnds, Joins}
 use Rattle.partition_defs.specs.Triangulation.{IsTriangulation, AreDistinct}
 use Rattle.star.specs.Turn.{AreInOneHalf, IsInDirection}
@@ -22,7 +24,6 @@ use Rattle.star.proofs.Turning.{Up, up, down}
 use Rattle.star.proofs.Changes.{gains_neighbour, gains_mark, marks_neighbour, keeps_mark}
 use Rattle.subdivision.specs.State.{star_at, AreStarsOf}
 use Rattle.subdivision.specs.Joining.{Links, LinksEnds}
-use Rattle.plane.proofs.Pairs.{pair_same}
 use Rattle.subdivision.proofs.Lists.{Has, has_of, contains_of, has_append, append_has}
 use Rattle.subdivision.proofs.Members.{joined, joins_of, marked_neighbour}
 

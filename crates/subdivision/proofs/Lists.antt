@@ -5,7 +5,7 @@ use Rattle.std.proofs.lemmas.Bool.{cases_lt}
 use Rattle.std.proofs.lemmas.Bool.{cond_both}
 use Rattle.std.proofs.lemmas.List.Kept.{AllPairs-cons, AllPairs-filter}
 use Rattle.plane.specs.declared.segment.Pair.{Pair}
-use Rattle.plane.proofs.Pairs.{pair_same}
+use Rattle.plane.proofs.laws.Pairs.{pair_same}
 use Rattle.subdivision.specs.Ascending.{ComesFirst, IsAscending}
 use Rattle.subdivision.specs.Every.{upward, row, rows, every_pair}
 

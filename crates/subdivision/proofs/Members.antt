@@ -14,7 +14,7 @@ use Rattle.star.specs.StarOf.{IsStarOf}
 use Rattle.subdivision.specs.Ascending.{IsAscending}
 use Rattle.subdivision.specs.Every.{every_pair}
 use Rattle.subdivision.specs.State.{State, star_at, has, keeps, all_of, kept_of, AreStarsOf, AreOf, AreAgreed, IsSubdivision, AreSame}
-use Rattle.plane.proofs.Pairs.{pair_same}
+use Rattle.plane.proofs.laws.Pairs.{pair_same}
 use Rattle.subdivision.proofs.Lists.{Has, has_of, contains_of, has_filter, filter_has, has_rows, rows_has, chosen_ascending, one_list, rises_of}
 
 -- the segment of a list with these ends

@@ -15,14 +15,14 @@ use Rattle.std.proofs.lemmas.Int.{ints}
 use Rattle.std.proofs.lemmas.List.{get_or_default}
 use Rattle.plane.specs.declared.coordinates.Point.{Point}
 use Rattle.plane.specs.Geometry.{point}
-use Rattle.plane.proofs.Area.{area_swap}
+use Rattle.plane.proofs.laws.Area.{area_swap}
+use Rattle.plane.proofs.laws.Pairs.{pair_same}
 use Rattle.star.specs.Turn.{TurnsBefore, IsBeforeInTurn}
 use Rattle.star.specs.Stars.{Seen, entry}
 use Rattle.star.proofs.Turning.{not_both}
 use Rattle.subdivision.specs.Ascending.{ComesFirst, IsAscending}
 use Rattle.subdivision.specs.State.{star_at, has, keeps, AreAgreed}
 use Rattle.subdivision.specs.Listing.{picks, picked_of, IsTidy, AreTidy, HasRows, IsSortedFrom}
-use Rattle.plane.proofs.Pairs.{pair_same}
 use Rattle.subdivision.proofs.Lists.{has_of, contains_of, one_list, rises_of, chosen_ascending}
 use Rattle.subdivision.proofs.Members.{neighbour_of, mark_of, marked_neighbour, chosen, choose}
 

@@ -10,7 +10,7 @@ use Rattle.plane.specs.declared.coordinates.Point.{Point}
 use Rattle.plane.specs.declared.segment.Pair.{Pair}
 use Rattle.plane.specs.Geometry.{point, orientation, IsBorderPair}
 use Rattle.plane.specs.Accepted.{AreApart, AreSpread}
-use Rattle.plane_laws.proofs.Orientations.{all_in_line, area_swap}
+use Rattle.plane_laws.proofs.Orientations.{all_in_line}
 use Rattle.partition_defs.specs.Partition.{Joins, HasEnds}
 use Rattle.partition_defs.specs.Triangulation.{IsBorderList, HasTriangulationCount}
 use Rattle.partition_defs.specs.Sweep.{IsSweptBefore}
@@ -23,6 +23,7 @@ use Rattle.triangulate.proofs.Places.{sweep_setting, opposite_turned}
 use Rattle.triangulate.proofs.Triangulated.{Swept, border_links, clear_from, border_swap, joins_own}
 use Rattle.triangulate.proofs.Joined.{joins_contains}
 use Rattle.triangulate.proofs.Count.{Key, key, ends, chain_keys, keys_count, all_keys, contains_key, key_cases, keys_distinct, pairs_distinct, same_length}
+use Rattle.plane.proofs.laws.Area.{area_back}
 
 flat : (x : ℤ) → pos 0 ≤ℤ x → pos 0 ≤ℤ neg_ℤ x → x ≡ pos 0
 flat x g h = omega (arith, ints)
@@ -51,7 +52,7 @@ upper_border : (S : List Point) (apart : AreApart S) (T : List Pair) (r r2 : Lis
 upper_border S apart T r r2 z m all p q k =
     let d : Side (length S) (IsSweptBefore S) (opposite S) (Joins T) (λ s. UpTo (IsSweptBefore S) s z) p q = m.upper.sides p q k in (
       clear_from S apart p q d.before (clear_turned (sweep_setting S apart) (opposite S) (orientation S) (turned_back (orientation S) (opposite S) (opposite_turned S)) p q d.clear),
-      inr (λ s sn. swapped_side (orientation S p q s) (orientation S q p s) (area_swap (point S p) (point S q) (point S s)) (d.left s sn (all s sn))),
+      inr (λ s sn. swapped_side (orientation S p q s) (orientation S q p s) (area_back (point S p) (point S q) (point S s)) (d.left s sn (all s sn))),
     )
 
 pub key_of : (e : Pair) (i j : ℕ) → i < j → HasEnds e i j → ends e ≡ key i j

@@ -14,7 +14,7 @@ use Rattle.std.proofs.lemmas.List.Kept.{AllPairs-cons}
 use Rattle.std.proofs.lemmas.Map.Keys.{IsDistinct-from_apart}
 use Rattle.std.proofs.lemmas.Map.Made.{length-le_from_is_member}
 use Rattle.plane.specs.declared.segment.Pair.{Pair, ordered-type}
-use Rattle.plane.proofs.Pairs.{pair_same}
+use Rattle.plane.proofs.laws.Pairs.{pair_same}
 use Rattle.partition_defs.specs.Triangulation.{AreDistinct}
 use Rattle.triangulate.specs.Sides.{UpTo}
 use Rattle.triangulate.specs.State.{Links}

@@ -11,7 +11,7 @@ use Rattle.std.proofs.lemmas.Bool.Decides.{nat_tests}
 use Rattle.plane.specs.declared.coordinates.Point.{Point}
 use Rattle.plane.specs.Geometry.{point}
 use Rattle.plane.specs.Accepted.{AreApart}
-use Rattle.plane.proofs.Rising.{lex, lex_total}
+use Rattle.plane.proofs.laws.Order.{lex, lex_total}
 use Rattle.plane_laws.specs.Order.{IsBefore}
 use Rattle.partition_defs.specs.Sweep.{IsSweptBefore}
 use Rattle.triangulate.specs.Order.{ArePlaced, IsSweepOrder}

@@ -7,10 +7,11 @@ use Rattle.plane.specs.Geometry.{point, orientation}
 use Rattle.plane.specs.Accepted.{AreApart}
 use Rattle.partition_defs.specs.Sweep.{IsSweptBefore}
 use Rattle.plane_laws.specs.Order.{IsBefore}
-use Rattle.plane_laws.proofs.Orientations.{area_cycle, area_swap, in_order}
+use Rattle.plane_laws.proofs.Orientations.{in_order}
 use Rattle.plane_laws.proofs.Between.{by_order}
 use Rattle.triangulate.proofs.Field.{Setting, Laws, AreTurned, turned_laws}
 use Rattle.triangulate.specs.Swept.{opposite}
+use Rattle.plane.proofs.laws.Area.{area_cycle, area_back}
 
 pub before_trans : (p q r : Point) → IsBefore p q → IsBefore q r → IsBefore p r
 before_trans p q r (inl g) (inl h) = inl (omega (arith, ints))
@@ -46,7 +47,7 @@ sweep_setting S apart = record {
 pub plane_laws : (S : List Point) (apart : AreApart S) → Laws (sweep_setting S apart) (orientation S)
 plane_laws S apart = record {
   cycle = λ i j k. area_cycle (point S i) (point S j) (point S k);
-  swap = λ i j k. area_swap (point S i) (point S j) (point S k);
+  swap = λ i j k. area_back (point S i) (point S j) (point S k);
   order = λ i j k l p q r. in_order (point S i) (point S j) (point S k) (point S l) p q r;
 }
 

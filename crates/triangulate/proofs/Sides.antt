@@ -3,7 +3,7 @@ use Rattle.std.proofs.Common.{◌≡◌, ◌≢◌, ℕ, ℤ, pos, neg_ℤ, arit
 use Rattle.std.specs.Prelude.{◌<ℤ◌, ◌≤ℤ◌}
 use Rattle.std.proofs.lemmas.Int.{ints}
 use Rattle.plane_laws.specs.Order.{AreInOrder}
-use Rattle.plane_laws.proofs.Steps.{by_sign}
+use Rattle.number_laws.proofs.Signs.{by_sign}
 use Rattle.triangulate.proofs.Signs.{second_rises, third_rises, last_rises}
 use Rattle.triangulate.proofs.Field.{Setting, Laws, flip, by_place}
 use Rattle.triangulate.proofs.Turns.{not_positive, same_weak}

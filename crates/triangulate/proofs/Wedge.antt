@@ -2,7 +2,7 @@
 use Rattle.std.proofs.Common.{◌≡◌, ℕ, ℤ, pos, neg_ℤ, ◌<◌, ◌⊎◌, inl, inr, sym, ◌∙◌, ap, subst, arith}
 use Rattle.std.specs.Prelude.{◌<ℤ◌, ◌≤ℤ◌}
 use Rattle.std.proofs.lemmas.Int.{ints}
-use Rattle.plane_laws.proofs.Steps.{by_sign}
+use Rattle.number_laws.proofs.Signs.{by_sign}
 use Rattle.triangulate.specs.Sides.{AllLeft, Clear, Beyond}
 use Rattle.triangulate.specs.State.{Sweeps}
 use Rattle.triangulate.proofs.Field.{Setting, Laws, flip, zero_ends, by_place}

@@ -3,7 +3,7 @@ use Rattle.std.proofs.Common.{◌≡◌, ℕ, List, inl, inr, arith, sym, ◌∙
 use Rattle.std.specs.List.{Contains}
 use Rattle.plane.specs.declared.coordinates.Point.{Point}
 use Rattle.plane.specs.declared.segment.Pair.{Pair}
-use Rattle.plane.proofs.Pairs.{pair_same}
+use Rattle.plane.proofs.laws.Pairs.{pair_same}
 use Rattle.partition_defs.specs.Partition.{HasEnds, Joins}
 use Rattle.partition_defs.specs.Triangulation.{IsTriangulation, IsApex}
 use Rattle.partition_defs.specs.Ascending.{IsAscending}

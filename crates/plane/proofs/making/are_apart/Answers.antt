@@ -1,8 +1,9 @@
 use Rattle.std.proofs.Common.{rules, is_lt, subst}
 use Rattle.std.specs.List.Sorted.{IsPermutation}
 use Rattle.std.proofs.lemmas.List.Sorted.{answers_always}
-use Rattle.plane.proofs.Rising.{lex, apart_by_neighbours}
+use Rattle.plane.proofs.Rising.{apart_by_neighbours}
 use Rattle.plane.proofs.making.are_apart.Goals as goal
+use Rattle.plane.proofs.laws.Order.{lex}
 
 pub returns : goal.returns
 returns c =

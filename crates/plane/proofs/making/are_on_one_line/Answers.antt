@@ -1,5 +1,5 @@
 use Rattle.std.proofs.Common.{arith}
-use Rattle.plane.proofs.Line.{on_one_line}
+use Rattle.plane.proofs.laws.Line.{on_one_line}
 use Rattle.plane.proofs.making.are_on_one_line.Goals as goal
 
 pub returns-clause-on : goal.returns-clause-on

@@ -1,5 +1,5 @@
 use Rattle.plane.specs.Geometry.{point}
-use Rattle.plane.proofs.Outermost.{points_differ}
+use Rattle.plane.proofs.laws.Border.{points_differ}
 use Rattle.star.proofs.Turning.{decided_same, decided_other, same_bits, other_bits}
 use Rattle.star.proofs.turn.is_before.Goals as goal
 

@@ -1,4 +1,4 @@
-use Rattle.plane.proofs.Outermost.{clear_of_pair}
+use Rattle.plane.proofs.laws.Border.{clear_of_pair}
 use Rattle.plane.proofs.accepted.Points.is_clear_between.Goals as goal
 
 pub returns : goal.returns

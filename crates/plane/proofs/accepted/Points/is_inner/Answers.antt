@@ -1,6 +1,7 @@
 use Rattle.std.proofs.Common.{rules}
-use Rattle.plane.proofs.Outermost.{inner_by_last, not_inner_left}
+use Rattle.plane.proofs.Outermost.{inner_by_last}
 use Rattle.plane.proofs.accepted.Points.is_inner.Goals as goal
+use Rattle.plane.proofs.laws.Border.{not_inner_left}
 
 pub returns-in-Some : goal.returns-in-Some
 returns-in-Some c = (λ t. absurd (search rules), λ inner. absurd (not_inner_left c.args.self.now c.args.v c.in-Some.field-0 c.in-Some.ensures inner))

@@ -4,11 +4,12 @@ use Rattle.std.proofs.lemmas.Int.{ints}
 use Rattle.plane.specs.declared.coordinates.Point.{Point}
 use Rattle.plane.specs.Geometry.{point, area, orientation}
 use Rattle.plane.specs.Accepted.{AreApart, AreOnOneLine}
-use Rattle.plane.proofs.Determinant.{mul_difference, parallel}
+use Rattle.number_laws.proofs.Products.{mul_sub}
+use Rattle.number_laws.proofs.Crosses.{parallel}
 
 between_steps : (dx dy ax ay px py qx qy : ℤ) → dx *ℤ (py -ℤ ay) -ℤ dy *ℤ (px -ℤ ax) ≡ pos 0 → dx *ℤ (qy -ℤ ay) -ℤ dy *ℤ (qx -ℤ ax) ≡ pos 0 → dx *ℤ (qy -ℤ py) -ℤ dy *ℤ (qx -ℤ px) ≡ pos 0
 between_steps dx dy ax ay px py qx qy hp hq =
-    omega (arith, ints, mul_difference dx py ay, mul_difference dy px ax, mul_difference dx qy ay, mul_difference dy qx ax, mul_difference dx qy py, mul_difference dy qx px)
+    omega (arith, ints, mul_sub dx py ay, mul_sub dy px ax, mul_sub dx qy ay, mul_sub dy qx ax, mul_sub dx qy py, mul_sub dy qx px)
 
 equal_ends : (a b : ℤ) → b -ℤ a ≡ pos 0 → a ≡ b
 equal_ends a b h = omega (arith, ints)

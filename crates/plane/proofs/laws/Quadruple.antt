@@ -4,8 +4,9 @@ use Rattle.std.proofs.lemmas.Int.{ints}
 use Rattle.std.proofs.Math.IntN.{*ℤ_comm}
 use Rattle.plane.specs.declared.coordinates.Point.{Point}
 use Rattle.plane.specs.Geometry.{area, AreOpposite, DoCross}
-use Rattle.plane.proofs.Determinant.{mul_difference, mul_differences, mul_add, mul_neg, mul_assoc, swap_middle}
-use Rattle.plane.proofs.Signs.{negative_or, positive_positive, positive_negative, negative_positive, negative_negative, zero_left}
+use Rattle.number_laws.proofs.Products.{sub_mul, mul_sub, mul_differences, mul_add, mul_neg, mul_assoc, mul_left_comm}
+use Rattle.number_laws.proofs.Signs.{negative_or, positive_positive, positive_negative, negative_positive, negative_negative, zero_left}
+use Rattle.plane.proofs.laws.Opposite.{opposite_neg}
 
 -- twice the area of three points, by products of their coordinates
 area_expanded : (p q r : Point) → area p q r ≡ (q.x *ℤ r.y -ℤ q.y *ℤ r.x) -ℤ (p.x *ℤ r.y -ℤ p.y *ℤ r.x) +ℤ (p.x *ℤ q.y -ℤ p.y *ℤ q.x)
@@ -31,7 +32,7 @@ area_sum a b c d =
 
 scaled_area : (x : ℤ) (p q r : Point) → x *ℤ area p q r ≡ x *ℤ cross_of q r -ℤ x *ℤ cross_of p r +ℤ x *ℤ cross_of p q
 scaled_area x p q r =
-    ap (λ y. x *ℤ y) (area_crosses p q r) ∙ mul_add x (cross_of q r -ℤ cross_of p r) (cross_of p q) ∙ ap (λ y. y +ℤ x *ℤ cross_of p q) (mul_difference x (cross_of q r) (cross_of p r))
+    ap (λ y. x *ℤ y) (area_crosses p q r) ∙ mul_add x (cross_of q r -ℤ cross_of p r) (cross_of p q) ∙ ap (λ y. y +ℤ x *ℤ cross_of p q) (mul_sub x (cross_of q r) (cross_of p r))
 
 -- a coordinate times a cross product, for three points: the sum round them is 0
 rotate : (a b c : ℤ) → a *ℤ (b *ℤ c) ≡ c *ℤ (a *ℤ b)
@@ -48,8 +49,8 @@ crosses_cancel : (p q r : Point) → p.x *ℤ cross_of q r -ℤ q.x *ℤ cross_o
 unfolding cross_of
 crosses_cancel p q r =
     around (p.x *ℤ (q.x *ℤ r.y)) (p.x *ℤ (q.y *ℤ r.x)) (q.x *ℤ (p.x *ℤ r.y)) (q.x *ℤ (p.y *ℤ r.x)) (r.x *ℤ (p.x *ℤ q.y)) (r.x *ℤ (p.y *ℤ q.x)) _ _ _ (pos 0) (pos 0) (pos 0)
-    (mul_difference p.x (q.x *ℤ r.y) (q.y *ℤ r.x)) (mul_difference q.x (p.x *ℤ r.y) (p.y *ℤ r.x)) (mul_difference r.x (p.x *ℤ q.y) (p.y *ℤ q.x))
-    (swap_middle p.x q.x r.y) (rotate p.x q.y r.x) (turn q.x p.y r.x)
+    (mul_sub p.x (q.x *ℤ r.y) (q.y *ℤ r.x)) (mul_sub q.x (p.x *ℤ r.y) (p.y *ℤ r.x)) (mul_sub r.x (p.x *ℤ q.y) (p.y *ℤ q.x))
+    (mul_left_comm p.x q.x r.y) (rotate p.x q.y r.x) (turn q.x p.y r.x)
 
 scaled_back : (x : ℤ) (p q : Point) → x *ℤ cross_of p q ≡ neg_ℤ (x *ℤ cross_of q p)
 scaled_back x p q = ap (λ y. x *ℤ y) (cross_back p q) ∙ mul_neg x (cross_of q p)
@@ -70,10 +71,7 @@ dependence a b c d =
     (scaled_area b.x c d a) (scaled_area a.x c d b) (scaled_area c.x a b d) (scaled_area d.x a b c)
 
 flat : (m a b c d : ℤ) → d -ℤ c ≡ a -ℤ b → m *ℤ d -ℤ m *ℤ c ≡ m *ℤ a -ℤ m *ℤ b
-flat m a b c d e = sym (mul_difference m d c) ∙ ap (λ x. m *ℤ x) e ∙ mul_difference m a b
-
-pub difference_times : (p m a : ℤ) → (p -ℤ m) *ℤ a ≡ p *ℤ a -ℤ m *ℤ a
-difference_times p m a = *ℤ_comm (p -ℤ m) a ∙ mul_difference a p m ∙ ap (λ x. x -ℤ a *ℤ m) (*ℤ_comm a p) ∙ ap (λ x. p *ℤ a -ℤ x) (*ℤ_comm a m)
+flat m a b c d e = sym (mul_sub m d c) ∙ ap (λ x. m *ℤ x) e ∙ mul_sub m a b
 
 not_below_zero : (a b : ℤ) → a ≤ℤ pos 0 → pos 0 <ℤ b → (a *ℤ b) ≤ℤ pos 0
 not_below_zero a b h k = elim (negative_or a) [
@@ -105,14 +103,14 @@ apart_across m ax bx cx dx a b c d even sum (inr h) (inl k) la lb lc ld =
     let pb = not_above_zero (ax -ℤ m) b (omega (arith, ints)) h.1 in
     let pc = positive_negative (dx -ℤ m) c (omega (arith, ints)) k.0 in
     let pd = positive_positive (cx -ℤ m) d (omega (arith, ints)) k.1 in
-    let e = balance _ _ _ _ (m *ℤ a) (m *ℤ b) (m *ℤ c) (m *ℤ d) (bx *ℤ a) (ax *ℤ b) (cx *ℤ d) (dx *ℤ c) (flat m a b c d sum) even (difference_times bx m a) (difference_times ax m b) (difference_times dx m c) (difference_times cx m d) in
+    let e = balance _ _ _ _ (m *ℤ a) (m *ℤ b) (m *ℤ c) (m *ℤ d) (bx *ℤ a) (ax *ℤ b) (cx *ℤ d) (dx *ℤ c) (flat m a b c d sum) even (sub_mul bx m a) (sub_mul ax m b) (sub_mul dx m c) (sub_mul cx m d) in
     four_signs ((bx -ℤ m) *ℤ a) ((ax -ℤ m) *ℤ b) ((dx -ℤ m) *ℤ c) ((cx -ℤ m) *ℤ d) pa pb pc pd e
 apart_across m ax bx cx dx a b c d even sum (inl h) (inr k) la lb lc ld =
     let pa = not_above_zero (bx -ℤ m) a (omega (arith, ints)) h.0 in
     let pb = not_below_zero (ax -ℤ m) b (omega (arith, ints)) h.1 in
     let pc = positive_positive (dx -ℤ m) c (omega (arith, ints)) k.0 in
     let pd = positive_negative (cx -ℤ m) d (omega (arith, ints)) k.1 in
-    let e = balance _ _ _ _ (m *ℤ a) (m *ℤ b) (m *ℤ c) (m *ℤ d) (bx *ℤ a) (ax *ℤ b) (cx *ℤ d) (dx *ℤ c) (flat m a b c d sum) even (difference_times bx m a) (difference_times ax m b) (difference_times dx m c) (difference_times cx m d) in
+    let e = balance _ _ _ _ (m *ℤ a) (m *ℤ b) (m *ℤ c) (m *ℤ d) (bx *ℤ a) (ax *ℤ b) (cx *ℤ d) (dx *ℤ c) (flat m a b c d sum) even (sub_mul bx m a) (sub_mul ax m b) (sub_mul dx m c) (sub_mul cx m d) in
     four_signs_back ((bx -ℤ m) *ℤ a) ((ax -ℤ m) *ℤ b) ((dx -ℤ m) *ℤ c) ((cx -ℤ m) *ℤ d) pa pb pc pd e
 
 -- crossing segments aren't apart across: the first isn't all at most m while the second is all above m
@@ -127,17 +125,13 @@ area_flipped : (p q r : Point) → area (flipped p) (flipped q) (flipped r) ≡ 
 unfolding area flipped
 area_flipped p q r = omega (arith, ints)
 
-opposite_flipped : (y z y' z' : ℤ) → y' ≡ neg_ℤ y → z' ≡ neg_ℤ z → AreOpposite y z → AreOpposite y' z'
-opposite_flipped y z y' z' ey ez (inl h) = inr (omega (arith, ints, h.0, ey), omega (arith, ints, h.1, ez))
-opposite_flipped y z y' z' ey ez (inr h) = inl (omega (arith, ints, h.0, ey), omega (arith, ints, h.1, ez))
-
 -- crossing segments aren't apart upward either
 not_apart_upward : (m : ℤ) (a b c d : Point) → AreOpposite (area a b c) (area a b d) → AreOpposite (area c d a) (area c d b) → a.y ≤ℤ m → b.y ≤ℤ m → m <ℤ c.y → m <ℤ d.y → ⊥
 unfolding flipped
 not_apart_upward m a b c d first second la lb lc ld =
     not_apart_across m (flipped a) (flipped b) (flipped c) (flipped d)
-    (opposite_flipped _ _ _ _ (area_flipped a b c) (area_flipped a b d) first)
-    (opposite_flipped _ _ _ _ (area_flipped c d a) (area_flipped c d b) second) la lb lc ld
+    (opposite_neg _ _ _ _ (area_flipped a b c) (area_flipped a b d) first)
+    (opposite_neg _ _ _ _ (area_flipped c d a) (area_flipped c d b) second) la lb lc ld
 
 -- both first numbers are below both last ones
 abbrev pub AreBelow : (a b c d : ℤ) → Type 0

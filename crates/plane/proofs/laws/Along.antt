@@ -4,10 +4,11 @@ use Rattle.std.proofs.lemmas.Int.{ints}
 use Rattle.std.proofs.Math.IntN.{*ℤ_comm}
 use Rattle.plane.specs.declared.coordinates.Point.{Point}
 use Rattle.plane.specs.Geometry.{area, scalar, AreOpposite, LiesBetween}
-use Rattle.plane.proofs.Determinant.{mul_difference, swap_middle, zero_factor}
-use Rattle.plane.proofs.Signs.{negative_or, opposite_steps, negative_of_opposite, products_agree, positive_positive, positive_negative, negative_positive, negative_negative, zero_left, zero_right, difference_zero}
-use Rattle.plane.proofs.Area.{area_cycle, area_swap, area_back, scalar_swap}
-use Rattle.plane.proofs.Line.{same_point, collinear}
+use Rattle.number_laws.proofs.Products.{mul_sub, mul_left_comm, zero_factor}
+use Rattle.number_laws.proofs.Signs.{negative_or, products_agree, positive_positive, positive_negative, negative_positive, negative_negative, zero_left, zero_right, difference_zero}
+use Rattle.plane.proofs.laws.Line.{same_point, collinear}
+use Rattle.plane.proofs.laws.Opposite.{not_opposite_zero, zero_not_opposite, opposite_steps, negative_of_opposite}
+use Rattle.plane.proofs.laws.Area.{area_first, area_cycle, area_swap, area_back, scalar_swap}
 
 zero_back : (p q r : Point) → area q p r ≡ pos 0 → area p q r ≡ pos 0
 zero_back p q r h = let e = area_back p q r in omega (arith, ints)
@@ -17,15 +18,15 @@ between_swap p q r h = (let e = area_cycle q p r in let f = area_cycle p r q in 
 
 scale_across : (ux uy rx ry bx by : ℤ) → ux *ℤ ry ≡ uy *ℤ rx → ux *ℤ (bx *ℤ ry -ℤ by *ℤ rx) ≡ rx *ℤ (bx *ℤ uy -ℤ by *ℤ ux)
 scale_across ux uy rx ry bx by e =
-    let far : ux *ℤ (bx *ℤ ry) ≡ rx *ℤ (bx *ℤ uy) = swap_middle ux bx ry ∙ ap (λ x. bx *ℤ x) (e ∙ *ℤ_comm uy rx) ∙ swap_middle bx rx uy in
-    let near : ux *ℤ (by *ℤ rx) ≡ rx *ℤ (by *ℤ ux) = swap_middle ux by rx ∙ ap (λ x. by *ℤ x) (*ℤ_comm ux rx) ∙ swap_middle by rx ux in
-    mul_difference ux (bx *ℤ ry) (by *ℤ rx) ∙ ap (λ x. x -ℤ ux *ℤ (by *ℤ rx)) far ∙ ap (λ x. rx *ℤ (bx *ℤ uy) -ℤ x) near ∙ sym (mul_difference rx (bx *ℤ uy) (by *ℤ ux))
+    let far : ux *ℤ (bx *ℤ ry) ≡ rx *ℤ (bx *ℤ uy) = mul_left_comm ux bx ry ∙ ap (λ x. bx *ℤ x) (e ∙ *ℤ_comm uy rx) ∙ mul_left_comm bx rx uy in
+    let near : ux *ℤ (by *ℤ rx) ≡ rx *ℤ (by *ℤ ux) = mul_left_comm ux by rx ∙ ap (λ x. by *ℤ x) (*ℤ_comm ux rx) ∙ mul_left_comm by rx ux in
+    mul_sub ux (bx *ℤ ry) (by *ℤ rx) ∙ ap (λ x. x -ℤ ux *ℤ (by *ℤ rx)) far ∙ ap (λ x. rx *ℤ (bx *ℤ uy) -ℤ x) near ∙ sym (mul_sub rx (bx *ℤ uy) (by *ℤ ux))
 
 scale_upward : (ux uy rx ry bx by : ℤ) → ux *ℤ ry ≡ uy *ℤ rx → uy *ℤ (bx *ℤ ry -ℤ by *ℤ rx) ≡ ry *ℤ (bx *ℤ uy -ℤ by *ℤ ux)
 scale_upward ux uy rx ry bx by e =
-    let far : uy *ℤ (bx *ℤ ry) ≡ ry *ℤ (bx *ℤ uy) = swap_middle uy bx ry ∙ ap (λ x. bx *ℤ x) (*ℤ_comm uy ry) ∙ swap_middle bx ry uy in
-    let near : uy *ℤ (by *ℤ rx) ≡ ry *ℤ (by *ℤ ux) = swap_middle uy by rx ∙ ap (λ x. by *ℤ x) (sym e ∙ *ℤ_comm ux ry) ∙ swap_middle by ry ux in
-    mul_difference uy (bx *ℤ ry) (by *ℤ rx) ∙ ap (λ x. x -ℤ uy *ℤ (by *ℤ rx)) far ∙ ap (λ x. ry *ℤ (bx *ℤ uy) -ℤ x) near ∙ sym (mul_difference ry (bx *ℤ uy) (by *ℤ ux))
+    let far : uy *ℤ (bx *ℤ ry) ≡ ry *ℤ (bx *ℤ uy) = mul_left_comm uy bx ry ∙ ap (λ x. bx *ℤ x) (*ℤ_comm uy ry) ∙ mul_left_comm bx ry uy in
+    let near : uy *ℤ (by *ℤ rx) ≡ ry *ℤ (by *ℤ ux) = mul_left_comm uy by rx ∙ ap (λ x. by *ℤ x) (sym e ∙ *ℤ_comm ux ry) ∙ mul_left_comm by ry ux in
+    mul_sub uy (bx *ℤ ry) (by *ℤ rx) ∙ ap (λ x. x -ℤ uy *ℤ (by *ℤ rx)) far ∙ ap (λ x. ry *ℤ (bx *ℤ uy) -ℤ x) near ∙ sym (mul_sub ry (bx *ℤ uy) (by *ℤ ux))
 
 -- scaled by numbers of opposite signs, a negative number equals a positive one alone
 turned : (a c m n : ℤ) → AreOpposite a c → a *ℤ m ≡ c *ℤ n → m <ℤ pos 0 → pos 0 <ℤ n
@@ -147,22 +148,11 @@ apart_of_between p q r h e =
       | inr o ↦ (let f = ap (λ (a : Point). a.y) e in elim o.2 [ inl k ↦ omega (arith, ints, k.1, f) | inr k ↦ omega (arith, ints, k.1, f) ])
     ]
 
-pub no_area : (p q : Point) → area p q p ≡ pos 0
-no_area p q = let e = area_cycle p q p in let f = area_swap p p q in let g = area_back p p q in omega (arith, ints)
-
 beyond_across : (w v r b : ℤ) → AreOpposite (w -ℤ v) (r -ℤ v) → AreOpposite (v -ℤ r) (b -ℤ r) → AreOpposite (w -ℤ v) (b -ℤ v)
 beyond_across w v r b (inl h) (inl k) = inl (h.0, omega (arith, ints, h.1, k.0, k.1))
 beyond_across w v r b (inl h) (inr k) = absurd (omega (arith, ints, h.1, k.0))
 beyond_across w v r b (inr h) (inl k) = absurd (omega (arith, ints, h.1, k.0))
 beyond_across w v r b (inr h) (inr k) = inr (h.0, omega (arith, ints, h.1, k.0, k.1))
-
-not_opposite_zero : (a b : ℤ) → a ≡ pos 0 → ¬ AreOpposite a b
-not_opposite_zero a b e (inl h) = omega (arith, ints, h.0, e)
-not_opposite_zero a b e (inr h) = omega (arith, ints, h.0, e)
-
-zero_not_opposite : (a b : ℤ) → b ≡ pos 0 → ¬ AreOpposite a b
-zero_not_opposite a b e (inl h) = omega (arith, ints, h.1, e)
-zero_not_opposite a b e (inr h) = omega (arith, ints, h.1, e)
 
 -- Where v lies between w and r, and r between v and b, v lies between w and b.
 pub between_beyond : (v w r b : Point) → LiesBetween v w r → LiesBetween r v b → LiesBetween v w b
@@ -170,7 +160,7 @@ between_beyond v w r b h k =
     let vr = apart_of_between v w r h in
     let line_w : area v r w ≡ pos 0 = (let e = zero_back v w r h.0 in let f = area_swap v r w in omega (arith, ints)) in
     let line_b : area v r b ≡ pos 0 = k.0 in
-    let line = collinear v r v w b vr (no_area v r) line_w line_b in
+    let line = collinear v r v w b vr (area_first v r) line_w line_b in
     elim (steps_apart v w r h) [
       | inl o ↦ elim (steps_apart r v b k) [
         | inl m ↦ between_across v w b line (beyond_across w.x v.x r.x b.x o m)

@@ -1,0 +1,5 @@
+pub mod Naturals
+pub mod Truth
+pub mod Products
+pub mod Signs
+pub mod Crosses

@@ -52,7 +52,7 @@ upper_border : (S : List Point) (apart : AreApart S) (T : List Pair) (r r2 : Lis
 upper_border S apart T r r2 z m all p q k =
     let d : Side (length S) (IsSweptBefore S) (opposite S) (Joins T) (λ s. UpTo (IsSweptBefore S) s z) p q = m.upper.sides p q k in (
       clear_from S apart p q d.before (clear_turned (sweep_setting S apart) (opposite S) (orientation S) (turned_back (orientation S) (opposite S) (opposite_turned S)) p q d.clear),
-      inr (λ s sn. swapped_side (orientation S p q s) (orientation S q p s) (area_back (point S p) (point S q) (point S s)) (d.left s sn (all s sn))),
+      inr (λ s sn. swapped_side (orientation S p q s) (orientation S q p s) (area_back (point S q) (point S p) (point S s)) (d.left s sn (all s sn))),
     )
 
 pub key_of : (e : Pair) (i j : ℕ) → i < j → HasEnds e i j → ends e ≡ key i j

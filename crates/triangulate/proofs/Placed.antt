@@ -1,5 +1,5 @@
 -- A sorted list of the points with their indices is in the order of the sweep.
-use Rattle.std.proofs.Common.{◌≡◌, ℕ, ◌<◌, ◌≤◌, inl, inr, sym, ◌∙◌, ap, ap₂, refl, subst, subst₂, List, length, get_or, map, Bool, true, false, arith, eqb, true≢false, Ordering, is_lt, int_cmp}
+use Rattle.std.proofs.Common.{◌≡◌, ℕ, ◌<◌, ◌≤◌, inl, inr, sym, ◌∙◌, ap, ap₂, refl, subst, subst₂, List, length, get_or, map, Bool, true, false, arith, eqb, true≢false, is_lt}
 use Rattle.std.specs.List.{All, Contains, IsDistinct}
 use Rattle.std.specs.List.Sorted.{IsPermutation, IsSortedBy}
 use Rattle.std.proofs.lemmas.List.{get_or-map, length-map}

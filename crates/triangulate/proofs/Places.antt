@@ -46,8 +46,8 @@ sweep_setting S apart = record {
 
 pub plane_laws : (S : List Point) (apart : AreApart S) → Laws (sweep_setting S apart) (orientation S)
 plane_laws S apart = record {
-  cycle = λ i j k. area_cycle (point S i) (point S j) (point S k);
-  swap = λ i j k. area_back (point S i) (point S j) (point S k);
+  cycle = λ i j k. sym (area_cycle (point S i) (point S j) (point S k));
+  swap = λ i j k. area_back (point S j) (point S i) (point S k);
   order = λ i j k l p q r. in_order (point S i) (point S j) (point S k) (point S l) p q r;
 }
 

@@ -1,5 +1,4 @@
-use Rattle.std.proofs.Common.{List, sym, subst}
-use Rattle.plane.specs.declared.segment.Pair.{Pair}
+use Rattle.std.proofs.Common.{sym, subst}
 use Rattle.partition_defs.specs.Triangulation.{HasTriangulationCount}
 use Rattle.partition_defs.specs.Sweep.{AreSweepPairs}
 use Rattle.subdivision.specs.Ascending.{IsAscending}

@@ -1,0 +1,7 @@
+pub mod Sums
+pub mod Tests
+pub mod Sides
+pub mod Counted
+pub mod Duality
+pub mod Nearest
+pub mod Values

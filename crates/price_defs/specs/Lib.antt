@@ -1,0 +1,9 @@
+pub mod Rows
+pub mod Loads
+pub mod Duality
+pub mod Limits
+pub mod Faults
+pub mod Tight
+pub mod Floor
+pub mod Raising
+pub mod Laws

@@ -7,9 +7,12 @@ use Rattle.plane.specs.Geometry.{orientation, IsBorderPair, IsEmptyTriangle}
 use Rattle.partition_defs.specs.Partition.{Joins, AreWithin, AreClear, ArePlane, HasBorder}
 
 -- r is the apex of p to q: with them it spans an empty triangle of the set, on the left
-abbrev pub IsApex : List Point → List Pair → (p q r : ℕ) → Type 0
-IsApex S T p q r =
-    (r < length S) × Joins T p r × Joins T q r × (pos 0 <ℤ orientation S p q r) × IsEmptyTriangle S p q r
+pub record IsApex (S : List Point) (T : List Pair) (p q r : ℕ) : Type 0 where
+  pub within : r < length S
+  pub first : Joins T p r
+  pub second : Joins T q r
+  pub left : pos 0 <ℤ orientation S p q r
+  pub empty : IsEmptyTriangle S p q r
 
 -- some point is strictly left of the line from p to q
 abbrev pub HasLeft : List Point → (p q : ℕ) → Type 0

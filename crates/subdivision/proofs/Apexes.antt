@@ -51,10 +51,10 @@ none_amid S T p q a s tri apex hs join amid =
     elim (negative_or (area (point S q) (point S a) (point S s))) [
       | inl beyond ↦ (
           let (e, me, ends) = joined T p s join in
-          let (f, mf, sides) = joined T q a apex.2 in
-          let crossing : AreCrossing S p s q a = (inl (omega (arith, ints, amid.0), amid.1), inr (omega (arith, ints, apex.3), beyond)) in
+          let (f, mf, sides) = joined T q a apex.second in
+          let crossing : AreCrossing S p s q a = (inl (omega (arith, ints, amid.0), amid.1), inr (omega (arith, ints, apex.left), beyond)) in
           tri.plane e f (contains_of T e me) (contains_of T f mf) (crossing_ends S e f p s q a ends sides crossing))
-      | inr rest ↦ apex.4 s hs
+      | inr rest ↦ apex.empty s hs
           (λ h. (let z = area_first (point S p) (point S q) in positive_not (area (point S p) (point S q) (point S s)) (ap (λ i. area (point S p) (point S q) (point S i)) h ∙ z) amid.0))
           (λ h. (let z = flat (point S p) (point S q) in positive_not (area (point S p) (point S q) (point S s)) (ap (λ i. area (point S p) (point S q) (point S i)) h ∙ z) amid.0))
           (λ h. (let z = flat (point S p) (point S a) in positive_not (area (point S p) (point S s) (point S a)) (ap (λ i. area (point S p) (point S i) (point S a)) h ∙ z) amid.1))
@@ -77,7 +77,7 @@ same_number m n = elim (cases_lt m n) [ inl h ↦ inr (omega arith) | inr h ↦ 
 -- an apex of p to q is the neighbour after q
 pub apex_is_next : (S : List Point) (T K : List Pair) (p q a k : ℕ) (s : Seen) → IsTriangulation S T → IsStarOf S T K p s → StandsAt s k q → IsApex S T p q a → a ≡ (entry s.list (around (length s.list) (k + 1))).0
 apex_is_next S T K p q a k s tri so stands apex =
-    let (j, place) = (so.neighbours a).1 apex.1 in
+    let (j, place) = (so.neighbours a).1 apex.first in
     let hj = place.0 in
     let at = place.1 in
     elim (same_number j (around (length s.list) (k + 1))) [
@@ -95,11 +95,11 @@ apex_is_next S T K p q a k s tri so stands apex =
         let B : ℕ → Type 0 = λ c. pos 0 <ℤ orientation S c (entry s.list k).0 (entry s.list j).0 in
         let C : ℕ → Type 0 = λ x. pos 0 <ℤ orientation S p x (entry s.list j).0 in
         let D : ℕ → Type 0 = λ x. pos 0 <ℤ orientation S p q x in
-        subst A (sym so.points) (subst B (sym so.centre) (subst C (sym stands.1) (subst D (sym at) apex.3)))) in
+        subst A (sym so.points) (subst B (sym so.centre) (subst C (sym stands.1) (subst D (sym at) apex.left)))) in
         let apart : j ≢ k = λ e. (let same : a ≡ q = sym at ∙ ap (λ i. (entry s.list i).0) e ∙ stands.1 in
         let z = area_swap (point S p) (point S q) (point S q) in
         let flat : orientation S p q a ≡ orientation S p q q = ap (λ i. orientation S p q i) same in
-        omega (arith, ints, apex.3, z, flat)) in
+        omega (arith, ints, apex.left, z, flat)) in
         let amid = next_or_amid s k j so.star stands.0 hj apart ne left in
         let A : List Point → Type 0 = λ P. IsAmid (point P s.centre) (point P (entry s.list k).0) (point P r) (point P (entry s.list j).0) in
         let B : ℕ → Type 0 = λ c. IsAmid (point S c) (point S (entry s.list k).0) (point S r) (point S (entry s.list j).0) in
@@ -123,7 +123,7 @@ pub apex_none : (S : List Point) (T K : List Pair) (p q r : ℕ) (s : Seen) → 
 apex_none S T K p q r s tri so (k, stands, is) right = λ join left.
     let (a, apex) = tri.apex p q join left in
     let same : a ≡ r = apex_is_next S T K p q a k s tri so stands apex ∙ sym is in
-    right (subst (λ x. pos 0 <ℤ orientation S p q x) same apex.3)
+    right (subst (λ x. pos 0 <ℤ orientation S p q x) same apex.left)
 
 pub apex_apart : (S : List Point) (T K : List Pair) (p q : ℕ) (s : Seen) → IsStarOf S T K p s → IsNext s q None → IsApexOrNone S T p q None
 apex_apart S T K p q s so none = λ join left. none ((so.neighbours q).1 join)

@@ -115,7 +115,7 @@ met_in S apart T r r2 z m p h =
     (h.0, M.in_first h.0 p (M.back p h.0 h.1), h.1)
 
 apex_in : (S : List Point) (apart : AreApart S) (T : List Pair) (p q : ℕ) → Apex (length S) (IsSweptBefore S) (orientation S) (Joins T) p q → (r : ℕ) × IsApex S T p q r
-apex_in S apart T p q a = (a.r, (a.r_in, a.first, a.second, a.left, λ s sn np nq nr h. a.empty.none s sn np nq nr h))
+apex_in S apart T p q a = (a.r, record { within = a.r_in; first = a.first; second = a.second; left = a.left; empty = λ s sn np nq nr h. a.empty.none s sn np nq nr h })
 
 pub is_triangulation : (S : List Point) (apart : AreApart S) (T : List Pair) (r r2 : List ℕ) (z u : ℕ) → Swept S apart T r r2 z → All (sweep_setting S apart) z
     → u < length S → u ≢ z → IsTriangulation S T

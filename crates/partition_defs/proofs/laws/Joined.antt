@@ -69,7 +69,7 @@ pub contains_same : (T U : List Pair) → AreSame T U → (e : Pair) → Contain
 contains_same T U same e h = contains_of U e (has_joined U e ((same e.lo e.hi).0 (join_own T e (has_of T e h))))
 
 pub apex_same : (S : List Point) (T U : List Pair) → AreSame T U → (p q r : ℕ) → IsApex S T p q r → IsApex S U p q r
-apex_same S T U same p q r a = (a.0, (same p r).0 a.1, (same q r).0 a.2, a.3, a.4)
+apex_same S T U same p q r a = record { within = a.within; first = (same p r).0 a.first; second = (same q r).0 a.second; left = a.left; empty = a.empty }
 
 -- being a triangulation is a matter of membership
 pub triangulation_same : (S : List Point) (T U : List Pair) → AreSame T U → IsTriangulation S T → IsTriangulation S U

@@ -2,3 +2,8 @@ pub mod Steps
 pub mod Orientations
 pub mod Between
 pub mod Separation
+pub mod Sums
+pub mod Field
+pub mod Four
+pub mod Places
+pub mod Quadrilaterals

@@ -6,7 +6,10 @@ ghost use Rattle.std.specs.Prelude.{◌≡◌, ◌≢◌, ◌+ℤ◌, neg_ℤ, p
 ghost use Rattle.plane.specs.Geometry.{point, orientation, IsBetween, AreCrossing};
 ghost use Rattle.plane_laws.specs.Order.{IsBefore, AreInOrder, IsAmid};
 
+mod quads;
+
 use plane::Points;
+pub use quads::{diagonals_of_four, leaves_triangle, other_diagonal_of_four};
 
 /// The orientation of three points stays where they change places in a cycle, and turns where the first two change
 /// places. (Textbook.)

@@ -2,3 +2,6 @@
 pub mod Has
 pub mod Joined
 pub mod Sets
+pub mod Net
+pub mod Flips
+pub mod Needs

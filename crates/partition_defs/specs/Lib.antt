@@ -3,3 +3,4 @@ pub mod Triangulation
 pub mod Sweep
 pub mod Ascending
 pub mod Sets
+pub mod Flips

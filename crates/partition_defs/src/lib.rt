@@ -5,6 +5,8 @@ ghost use Rattle.std.specs.Prelude.{◌<◌, ◌≢◌, ◌↔◌, length, IsTru
 ghost use Rattle.plane.specs.Geometry.{IsBorderPair, IsInNeed, IsInner};
 ghost use Rattle.partition_defs.specs.Partition.{HasEnds, Joins, AreWithin, AreClear, ArePlane, CrossesNone, HasBorder, HasBorderFrom, IsMet, MeetsNeedsAt, MeetsNeeds, IsConvexPartition};
 
+pub mod laws;
+
 use plane::{Pair, Points};
 
 /// Whether the segment has these two ends, either way round.

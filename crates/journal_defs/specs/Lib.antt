@@ -1,0 +1,7 @@
+pub mod Edits
+pub mod Journal
+pub mod Needs
+pub mod Table
+pub mod Agree
+pub mod Neighbours
+pub mod Weave

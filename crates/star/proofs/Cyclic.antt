@@ -8,7 +8,8 @@ use Rattle.plane.specs.Geometry.{point, area, orientation}
 use Rattle.plane.proofs.laws.Area.{area_swap}
 use Rattle.star.specs.Turn.{IsUpper, IsLower, TurnsBefore}
 use Rattle.star.specs.Stars.{Seen, IsStar, entry, around}
-use Rattle.star.proofs.Turning.{cross, Up, Down, turn_on, cross_back, neg_cross, neg_neg, up, down, not_both}
+use Rattle.number_laws.proofs.Crosses.{cross, cross_back, neg_cross, neg_neg}
+use Rattle.star.proofs.laws.Turning.{Up, Down, turn_on, up, down, not_both}
 
 doubled : (x y : ℤ) → Up x y → Up (neg_ℤ (neg_ℤ x)) (neg_ℤ (neg_ℤ y))
 doubled x y (inl h) = inl (omega (arith, ints))

@@ -1,7 +1,6 @@
 -- What a star's list keeps: names and their order, through a mark, an insert and a remove.
 use Rattle.std.proofs.Common.{◌≡◌, ◌≢◌, ℕ, ◌+◌, ◌-◌, ◌<◌, ◌≤◌, Bool, true, false, List, length, get_or, set, insert, remove, map, ◌⊎◌, inl, inr, arith, sym, ◌∙◌, ap, subst, refl, eqb, Any, get_or-set_other, get_or-set_same, length-set}
 use Rattle.std.specs.List.{list_any, AllPairs}
-use Rattle.std.proofs.lemmas.Int.{ints}
 use Rattle.std.proofs.lemmas.List.{length-map, get_or-map}
 use Rattle.std.proofs.lemmas.List.Edits.{length-insert, get_or-insert_below, get_or-insert_at, get_or-insert_above, length-remove, get_or-remove_below, get_or-remove_above}
 use Rattle.std.proofs.lemmas.List.Folds.{Any-from_list_any}
@@ -12,11 +11,10 @@ use Rattle.std.proofs.lemmas.Bool.{cases_lt}
 use Rattle.plane.specs.declared.coordinates.Point.{Point}
 use Rattle.plane.specs.Geometry.{point}
 use Rattle.plane.specs.Accepted.{AreAccepted}
-use Rattle.plane.proofs.laws.Area.{area_swap}
-use Rattle.plane.proofs.laws.Border.{points_differ}
-use Rattle.star.specs.Turn.{TurnsBefore, IsBeforeInTurn}
-use Rattle.star.specs.Stars.{Seen, entry, around, AreInTurn, IsOrderly, StandsAt, IsFree, IsBetween}
-use Rattle.star.proofs.Turning.{not_both, before_or, before_on}
+use Rattle.star.specs.Turn.{IsBeforeInTurn}
+use Rattle.star.specs.Stars.{entry, around, AreInTurn, IsOrderly}
+use Rattle.number_laws.proofs.Naturals.{equal_or_not}
+use Rattle.star.proofs.laws.Turning.{never_before_itself}
 
 -- the steps round a cyclic list come to each position
 pub all_round : (n k j : ℕ) → k < n → j < n → (e : ℕ) × (e < n) × (around n (k + e + 1) ≡ j)
@@ -27,13 +25,10 @@ all_round n k j hk hj = elim (cases_lt k j) [
 
 -- the names stay through a mark
 pub marked_names : (list : List (ℕ × Bool)) (k q : ℕ) (b : Bool) → k < length list → (entry list k).0 ≡ q → (j : ℕ) → (entry (set list k (q, b)) j).0 ≡ (entry list j).0
-marked_names list k q b hk here j = elim (same_number j k) [
+marked_names list k q b hk here j = elim (equal_or_not j k) [
   | inl e ↦ ap (λ i. (get_or (set list k (q, b)) i (0, false)).0) e ∙ ap (λ (p : ℕ × Bool). p.0) (get_or-set_same list k (q, b) (0, false) hk) ∙ sym here ∙ ap (λ i. (entry list i).0) (sym e)
   | inr ne ↦ ap (λ (p : ℕ × Bool). p.0) (get_or-set_other list k j (q, b) (0, false) ne)
 ]
-  where
-    same_number : (m n : ℕ) → (m ≡ n) ⊎ (m ≢ n)
-    same_number m n = elim (cases_lt m n) [ inl h ↦ inr (omega arith) | inr h ↦ elim (cases_lt n m) [ inl k ↦ inr (omega arith) | inr k ↦ inl (omega arith) ] ]
 
 -- a list of the same names is in order too
 pub orderly_named : (S : List Point) (c : ℕ) (list new : List (ℕ × Bool)) → IsOrderly S c list → length new ≡ length list → ((j : ℕ) → (entry new j).0 ≡ (entry list j).0) → IsOrderly S c new
@@ -48,11 +43,6 @@ orderly_named S c list new so len names = record {
 pub orderly_marked : (S : List Point) (c : ℕ) (list : List (ℕ × Bool)) (k q : ℕ) (b : Bool) → IsOrderly S c list → k < length list → (entry list k).0 ≡ q → IsOrderly S c (set list k (q, b))
 orderly_marked S c list k q b so hk here = orderly_named S c list (set list k (q, b)) so (length-set list k (q, b)) (marked_names list k q b hk here)
 
--- a direction doesn't come before itself
-never_before : (c q : Point) → ¬ TurnsBefore c q q
-never_before c q (inl h) = not_both c q h.0 h.1
-never_before c q (inr h) = let e = area_swap c q q in omega (arith, ints, h.1)
-
 -- names in order are as many as there are points at most
 few_of : (S : List Point) (c : ℕ) (list : List (ℕ × Bool)) → ((k : ℕ) → k < length list → (entry list k).0 < length S) → AreInTurn S c list → length list ≤ length S
 few_of S c list within order =
@@ -62,7 +52,7 @@ few_of S c list within order =
     let apart : AllPairs (λ x y. x ≢ y) names = λ i j d ij h e.
     (let a = named i d (omega arith) in let b = named j d (omega arith) in
     let f : (entry list i).0 ≡ (entry list j).0 = sym a ∙ e ∙ b in
-    never_before (point S c) (point S (entry list j).0) (subst (λ x. IsBeforeInTurn S c x (entry list j).0) f (order i j ij (omega arith)))) in
+    never_before_itself (point S c) (point S (entry list j).0) (subst (λ x. IsBeforeInTurn S c x (entry list j).0) f (order i j ij (omega arith)))) in
     let below : (q : ℕ) → list_any (eqb q) names ≡ true → q < length S = λ q t. low q (Any-from_list_any (eqb q) names t) named len in
     omega (arith, len, length-le_from_distinct_below names (length S) (IsDistinct-from_AllPairs Decides-eqb names apart) below)
   where
@@ -70,25 +60,6 @@ few_of S c list within order =
     low q (k, x, hk, at, t) named len =
         let e : q ≡ (entry list k).0 = (Decides-eqb q x).0 t ∙ sym at ∙ named k x (omega arith) in
         subst (λ y. y < length S) (sym e) (within k (omega arith))
-
--- q stands in turning order where the names before it come before it and the next one doesn't
-pub placed : (s : Seen) (q k : ℕ) → AreAccepted s.points → IsOrderly s.points s.centre s.list → q < length s.points → q ≢ s.centre → IsFree s q → k ≤ length s.list → ((j : ℕ) → j < k → IsBeforeInTurn s.points s.centre (entry s.list j).0 q) → (k < length s.list → ¬ IsBeforeInTurn s.points s.centre (entry s.list k).0 q) → IsBetween s q k
-placed s q k accepted so hq apart free hk before not = (
-  hk,
-  before,
-  λ j kj hj. elim (cases_lt k j) [
-    | inl h ↦ before_on (point s.points s.centre) (point s.points q) (point s.points (entry s.list k).0) (point s.points (entry s.list j).0) (first (omega arith)) (so.order k j h hj)
-    | inr h ↦ (let e : k ≡ j = omega arith in subst (λ i. IsBeforeInTurn s.points s.centre q (entry s.list i).0) e (first (omega arith)))
-  ],
-)
-  where
-    first : k < length s.list → IsBeforeInTurn s.points s.centre q (entry s.list k).0
-    first h = elim (before_or (point s.points s.centre) (point s.points (entry s.list k).0) (point s.points q)
-        (points_differ s.points (entry s.list k).0 s.centre accepted.apart (so.within k h) so.centre (so.apart k h))
-        (points_differ s.points q s.centre accepted.apart hq so.centre apart)) [
-          | inl b ↦ absurd (not h b)
-          | inr rest ↦ elim rest [ inl t ↦ absurd (free k h t) | inr a ↦ a ]
-        ]
 
 -- the place of a position after an insert at k
 pub data Place (k j : ℕ) : Type 0 where
@@ -171,21 +142,3 @@ orderly_removed S c list k so hk =
     rising i j a b (inl w) (inr v) ab = omega arith
     rising i j a b (inr w) (inl v) ab = absurd (omega arith)
     rising i j a b (inr w) (inr v) ab = omega arith
-
--- the same for the list of a star
-pub marked_at : (S : List Point) (c : ℕ) (list : List (ℕ × Bool)) (s : Seen) (k q : ℕ) (b : Bool) → list ≡ s.list → IsOrderly S c list → StandsAt s k q → IsOrderly S c (set list k (q, b))
-marked_at S c list s k q b e so stands = orderly_marked S c list k q b so (subst (λ (xs : List (ℕ × Bool)). k < length xs) (sym e) stands.0) (subst (λ (xs : List (ℕ × Bool)). (entry xs k).0 ≡ q) (sym e) stands.1)
-
-pub removed_at : (S : List Point) (c : ℕ) (list new : List (ℕ × Bool)) (s : Seen) (k q : ℕ) → list ≡ s.list → IsOrderly S c list → StandsAt s k q → new ≡ remove list k → IsOrderly S c new
-removed_at S c list new s k q e so stands is = subst (λ (xs : List (ℕ × Bool)). IsOrderly S c xs) (sym is) (orderly_removed S c list k so (subst (λ (xs : List (ℕ × Bool)). k < length xs) (sym e) stands.0))
-
-pub inserted_at : (S : List Point) (c : ℕ) (list new : List (ℕ × Bool)) (s : Seen) (k q : ℕ) → S ≡ s.points → c ≡ s.centre → list ≡ s.list → AreAccepted s.points → IsOrderly S c list → q < length s.points → q ≢ s.centre → IsBetween s q k → new ≡ insert list k (q, false) → IsOrderly S c new
-inserted_at S c list new s k q eS ec el accepted so hq apart place is =
-    let T : List Point → Type 0 = λ P. IsOrderly P c list in
-    let U : ℕ → Type 0 = λ d. IsOrderly s.points d list in
-    let V : List (ℕ × Bool) → Type 0 = λ xs. IsOrderly s.points s.centre xs in
-    let there = subst V el (subst U ec (subst T eS so)) in
-    let done = orderly_inserted s.points s.centre s.list k q accepted there hq apart place.0 place.1 place.2 in
-    let A : List Point → Type 0 = λ P. IsOrderly P c new in
-    let B : ℕ → Type 0 = λ d. IsOrderly s.points d new in
-    subst A (sym eS) (subst B (sym ec) (subst V (ap (λ xs. insert xs k (q, false)) (sym el) ∙ sym is) done))

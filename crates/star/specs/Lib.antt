@@ -1,3 +1,5 @@
 pub mod Turn
 pub mod Stars
 pub mod StarOf
+pub mod Gaps
+pub mod Links

@@ -62,6 +62,11 @@ IsFirstKept s k r =
     (d : ℕ) × (d < length s.list) × (entry s.list (around (length s.list) (k + d + 1)) ≡ (r, true))
     × ((e : ℕ) → e < d → (entry s.list (around (length s.list) (k + e + 1))).1 ≡ false)
 
+-- the first kept neighbour after that at k, or none where none is kept
+abbrev pub IsFirstKeptOrNone : Seen → ℕ → Option ℕ → Type 0
+IsFirstKeptOrNone s k None = (j : ℕ) → j < length s.list → (entry s.list j).1 ≡ false
+IsFirstKeptOrNone s k (Some r) = IsFirstKept s k r
+
 -- the first kept neighbour after q, or none where q isn't a neighbour or none is kept
 abbrev pub IsKeptNext : Seen → ℕ → Option ℕ → Type 0
 IsKeptNext s q None = (k : ℕ) → StandsAt s k q → (j : ℕ) → j < length s.list → (entry s.list j).1 ≡ false
@@ -86,10 +91,3 @@ Loses old new q = (k : ℕ) × StandsAt old k q × (new.list ≡ remove old.list
 -- no neighbour stands in the direction of q
 abbrev pub IsFree : Seen → ℕ → Type 0
 IsFree s q = (k : ℕ) → k < length s.list → ¬ IsInDirection s.points s.centre (entry s.list k).0 q
-
--- the position k is between the neighbours that come before q and those that come after it
-abbrev pub IsBetween : Seen → (q k : ℕ) → Type 0
-IsBetween s q k =
-    (k ≤ length s.list)
-    × ((j : ℕ) → j < k → IsBeforeInTurn s.points s.centre (entry s.list j).0 q)
-    × ((j : ℕ) → k ≤ j → j < length s.list → IsBeforeInTurn s.points s.centre q (entry s.list j).0)

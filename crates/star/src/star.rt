@@ -1,9 +1,12 @@
-ghost use Rattle.std.specs.Prelude.{◌≡◌, ◌≢◌, ◌+◌, ◌<◌, ◌≤◌, ◌^◌, ℕ, [], length, IfOk, OnOk, OnErr, MatchOption, IsTrue, ◌↔◌, insert, vec_len, vec_capacity, true, false};
-ghost use Rattle.plane.specs.Accepted.{AreAccepted};
-ghost use Rattle.star.specs.Turn.{IsBeforeInTurn};
-ghost use Rattle.star.specs.Stars.{Seen, entry, around, IsStar, IsNeighbour, HasMark, StandsAt, IsPlace, IsNext, IsFirstKept, IsKeptNext, Marks, SamePlace, Gains, Loses, IsFree, IsBetween};
+ghost use Rattle.std.specs.Prelude.{◌≡◌, ◌≢◌, ◌+◌, ◌<◌, ◌≤◌, ◌^◌, ℕ, [], length, IfOk, OnOk, OnErr, IsTrue, ◌↔◌, insert, remove, slice_set, vec_len, vec_capacity, true, false};
+ghost use Rattle.star.specs.Stars.{Seen, entry, around, IsStar, IsNeighbour, HasMark, StandsAt, IsPlace, IsNext, IsFirstKept, IsFirstKeptOrNone, IsKeptNext, Marks, SamePlace, Gains, Loses, IsFree};
+ghost use Rattle.star.specs.Gaps.{IsKept, MeetsWithout, MissesWithout};
 
-use crate::turn::is_before;
+use crate::links::{
+    Link, kept_after, link_at, misses_with, name_at, put_in, put_link, put_neighbour, set_link,
+    take_out,
+};
+use crate::seek::{find, position, seat};
 use mcp_outside::NoMemory;
 use plane::Points;
 use std::alloc::Global;
@@ -13,33 +16,32 @@ use std::snapshot::Snapshot;
 /// The star of a centre: its neighbours counterclockwise from the direction of the positive x axis, each with a mark
 /// whether it is kept. Contracts see the centre, the list of neighbours with their marks, the points for which they
 /// are in order, and for how many more neighbours there is room.
+///
+/// Beside these it keeps for each kept neighbour whether its removal leaves a need of the centre unmet.
 #[derive(Drop)]
 pub struct Star {
     centre: u32,
     list: Vec<(u32, bool)>,
+    links: Vec<Link>,
+    misses: bool,
+    spare: usize,
     points: Snapshot<Points>,
 }
 
 impl Model for Star {
-    ghost use Rattle.std.specs.Prelude.{◌-◌, vec_len, vec_capacity};
-    ghost use Rattle.star.specs.Stars.{Seen, IsOrderly};
+    ghost use Rattle.std.specs.Prelude.{◌+◌, ◌≤◌, vec_len, vec_capacity};
+    ghost use Rattle.star.specs.Stars.{Seen};
+    ghost use Rattle.star.specs.Links.{HasRightLinks};
 
     ghost Value = { Seen };
 
-    ghost view = { λ a. record { centre = a.centre; list = a.list.items; spare = vec_capacity a.list - vec_len a.list; points = a.points.value } };
+    ghost view = { λ a. record { centre = a.centre; list = a.list.items; spare = a.spare; points = a.points.value } };
 
-    ghost invariant = { λ a. IsOrderly a.points.value a.centre a.list.items };
-}
-
-// Puts an unmarked neighbour into a list that has room.
-fn put(list: &mut Vec<(u32, bool)>, k: usize, q: u32)
-    requires place { k ≤ vec_len list.old }
-    requires room { vec_len list.old < vec_capacity list.old }
-    ensures list { list.new.items ≡ insert list.old.items k (q, false) }
-    ensures len { vec_len list.new ≡ vec_len list.old + 1 }
-    ensures capacity { vec_capacity list.new ≡ vec_capacity list.old }
-{
-    let _done = list.insert(k, (q, false));
+    ghost invariant = { λ a. record {
+      right : HasRightLinks a.points.value a.centre a.list.items a.links.items a.misses;
+      room : vec_len a.list + a.spare ≤ vec_capacity a.list;
+      links_room : vec_len a.links + a.spare ≤ vec_capacity a.links;
+    } };
 }
 
 impl Star {
@@ -51,9 +53,13 @@ impl Star {
         ensures points { result.points ≡ points.now }
         ensures order { IsStar result }
     {
+        let _count = points.len();
         Star {
             centre,
             list: Vec::new(alloc),
+            links: Vec::new(alloc),
+            misses: true,
+            spare: 0,
             points: Snapshot::of(points),
         }
     }
@@ -88,12 +94,7 @@ impl Star {
         requires { points.now ≡ self.now.points }
         ensures { IsPlace self.now q result }
     {
-        for k in 0..self.degree() {
-            if self.at(k).0 == q {
-                return Some(k);
-            }
-        }
-        None
+        find(points, self.centre, &self.list, q)
     }
 
     /// The neighbour after `q`, the list being cyclic, or none where `q` isn't a neighbour.
@@ -110,21 +111,11 @@ impl Star {
         requires { k < length self.now.list }
         ensures { result ≡ (entry self.now.list (around (length self.now.list) (k + 1))).0 }
     {
-        let _degree = self.degree();
-        self.at(self.around(k + 1)).0
-    }
-
-    // The position j of the cyclic list.
-    fn around(&self, j: u32) -> u32
-        requires some { 0 < length self.now.list }
-        requires once { j < length self.now.list + length self.now.list }
-        ensures position { result ≡ around (length self.now.list) j }
-        ensures within { result < length self.now.list }
-    {
-        if j < self.degree() {
-            j
+        let last = self.degree() - 1;
+        if k < last {
+            self.at(k + 1).0
         } else {
-            j - self.degree()
+            self.at(0).0
         }
     }
 
@@ -135,30 +126,62 @@ impl Star {
         ensures { IsKeptNext self.now q result }
     {
         let k = self.place(points, q)?;
-        self.kept_after(k)
+        if self.at(k).1 {
+            Some(self.link_after(k))
+        } else {
+            self.kept_from(k)
+        }
     }
 
-    // The first kept neighbour after that at k.
-    fn kept_after(&self, k: u32) -> Option<u32>
-        requires { k < length self.now.list }
-        ensures { MatchOption result ((j : ℕ) → j < length self.now.list → (entry self.now.list j).1 ≡ false) (λ r. IsFirstKept self.now k r) }
+    // The kept neighbour after the kept one at k.
+    fn link_after(&self, k: u32) -> u32
+        requires { IsKept self.now.list k }
+        ensures { IsFirstKept self.now k result }
     {
-        for d in 0..self.degree() {
-            let (r, kept) = self.at(self.around(k + d + 1));
-            if kept {
-                return Some(r);
-            }
+        link_at(&self.links, k).after
+    }
+
+    // The first kept neighbour after that at k, which isn't kept.
+    fn kept_from(&self, k: u32) -> Option<u32>
+        requires place { k < length self.now.list }
+        requires spare { (entry self.now.list k).1 ≡ false }
+        ensures { IsFirstKeptOrNone self.now k result }
+    {
+        match kept_after(&self.list, k) {
+            None => None,
+            Some(j) => Some(name_at(&self.list, j)),
         }
-        None
+    }
+
+    /// Whether without the kept neighbour `q` some need of the centre isn't met by the kept ones.
+    pub fn opens(&self, points: &Points, q: u32) -> bool
+        requires points { points.now ≡ self.now.points }
+        requires kept { HasMark self.now q true }
+        ensures opens { IsTrue result ↔ MissesWithout self.now q }
+        ensures met { result ≡ false → MeetsWithout self.now q }
+    {
+        let k = self.position(points, q);
+        self.opens_at(k)
+    }
+
+    /// Whether without the kept neighbour at `k` some need of the centre isn't met by the kept ones. It looks at no
+    /// point: the star keeps the answer.
+    pub fn opens_at(&self, k: u32) -> bool
+        requires { IsKept self.now.list k }
+        ensures opens { IsTrue result ↔ MissesWithout self.now (entry self.now.list k).0 }
+        ensures met { result ≡ false → MeetsWithout self.now (entry self.now.list k).0 }
+    {
+        self.misses || link_at(&self.links, k).opens
     }
 
     // The position of a neighbour.
-    fn seat(&self, points: &Points, q: u32) -> u32
+    fn position(&self, points: &Points, q: u32) -> u32
         requires points { points.now ≡ self.now.points }
         requires there { IsNeighbour self.now q }
-        ensures { StandsAt self.now result q }
+        ensures place { StandsAt self.now result q }
+        ensures order { IsStar self.now }
     {
-        self.place(points, q).unwrap()
+        position(points, self.centre, &self.list, q)
     }
 
     /// Takes the mark of the kept neighbour `q` away.
@@ -168,8 +191,36 @@ impl Star {
         ensures mark { Marks self.old self.new q false }
         ensures order { IsStar self.new }
     {
-        let k = self.seat(points, q);
-        self.list[k as usize] = (q, false);
+        let k = self.position(points, q);
+        self.drop_at(points, k);
+    }
+
+    // Takes the mark of the kept neighbour at k away.
+    fn drop_at(&mut self, points: &Points, k: u32)
+        requires points { points.now ≡ self.old.points }
+        requires kept { IsKept self.old.list k }
+        ensures mark { self.new ≡ record self.old { list = slice_set self.old.list k ((entry self.old.list k).0, false) } }
+        ensures order { IsStar self.new }
+    {
+        let gone = link_at(&self.links, k);
+        self.misses = self.opens_at(k);
+        let name = name_at(&self.list, k);
+        if gone.before != name {
+            let a = position(points, self.centre, &self.list, gone.before);
+            let b = position(points, self.centre, &self.list, gone.after);
+            take_out(
+                points,
+                self.centre,
+                &mut self.links,
+                a,
+                b,
+                gone.before,
+                gone.after,
+            );
+            self.list[k as usize] = (name, false);
+        } else {
+            self.list[k as usize] = (name, false);
+        }
     }
 
     /// Marks the neighbour `q`, which isn't kept, as kept.
@@ -179,8 +230,35 @@ impl Star {
         ensures mark { Marks self.old self.new q true }
         ensures order { IsStar self.new }
     {
-        let k = self.seat(points, q);
-        self.list[k as usize] = (q, true);
+        let k = self.position(points, q);
+        self.keep_at(points, k);
+    }
+
+    // Marks the neighbour at k, which isn't kept, as kept.
+    fn keep_at(&mut self, points: &Points, k: u32)
+        requires points { points.now ≡ self.old.points }
+        requires place { k < length self.old.list }
+        requires spare { (entry self.old.list k).1 ≡ false }
+        ensures mark { self.new ≡ record self.old { list = slice_set self.old.list k ((entry self.old.list k).0, true) } }
+        ensures order { IsStar self.new }
+    {
+        let _count = points.len();
+        let name = name_at(&self.list, k);
+        match kept_after(&self.list, k) {
+            None => {
+                set_link(points, self.centre, &mut self.links, k, name, name);
+                self.misses = true;
+                self.list[k as usize] = (name, true);
+            }
+            Some(b) => {
+                let p = link_at(&self.links, b).before;
+                let q = name_at(&self.list, b);
+                let a = position(points, self.centre, &self.list, p);
+                self.misses = misses_with(points, self.centre, self.misses, name, p, q);
+                put_in(points, self.centre, &mut self.links, k, a, b, name, p, q);
+                self.list[k as usize] = (name, true);
+            }
+        }
     }
 
     /// Makes room for `more` neighbours. Without memory all stays as it was.
@@ -191,36 +269,13 @@ impl Star {
         ensures refused { OnErr result (self.new ≡ self.old) }
         ensures order { IsStar self.new }
     {
-        Ok(self.list.reserve(more as usize)?)
-    }
-
-    // Whether the neighbour at k comes before q.
-    fn is_passed(&self, points: &Points, k: u32, q: u32) -> bool
-        requires points { points.now ≡ self.now.points }
-        requires place { k < length self.now.list }
-        requires within { q < length points.now }
-        requires apart { q ≢ self.now.centre }
-        ensures passed { IsTrue result ↔ IsBeforeInTurn self.now.points self.now.centre (entry self.now.list k).0 q }
-        ensures accepted { AreAccepted self.now.points }
-    {
-        let _count = points.len();
-        is_before(points, self.centre(), self.at(k).0, q)
-    }
-
-    // The position at which q stands in turning order.
-    fn turn_place(&self, points: &Points, q: u32) -> u32
-        requires points { points.now ≡ self.now.points }
-        requires within { q < length points.now }
-        requires apart { q ≢ self.now.centre }
-        requires free { IsFree self.now q }
-        ensures { IsBetween self.now q result }
-    {
-        for k in 0..self.degree() {
-            if !self.is_passed(points, k, q) {
-                return k;
-            }
+        let more = more as usize;
+        if self.spare < more {
+            self.links.reserve(more)?;
+            self.list.reserve(more)?;
+            self.spare = more;
         }
-        self.degree()
+        Ok(())
     }
 
     /// Puts `q` in as a neighbour that isn't kept, in turning order.
@@ -235,9 +290,10 @@ impl Star {
         ensures place { SamePlace self.old self.new }
         ensures order { IsStar self.new }
     {
-        let _count = points.len();
-        let k = self.turn_place(points, q);
-        put(&mut self.list, k as usize, q);
+        let k = seat(points, self.centre, &self.list, q);
+        put_neighbour(&mut self.list, k, q);
+        put_link(&mut self.links, k);
+        self.spare -= 1;
     }
 
     /// Takes the neighbour `q` out.
@@ -249,11 +305,30 @@ impl Star {
         ensures place { SamePlace self.old self.new }
         ensures order { IsStar self.new }
     {
-        let k = self.seat(points, q);
-        let _gone = self.list.remove(k as usize);
+        let k = self.position(points, q);
+        if self.at(k).1 {
+            self.drop_at(points, k);
+            self.remove_at(k);
+        } else {
+            self.remove_at(k);
+        }
     }
 
-    /// The same star again.
+    // Takes the neighbour at k, which isn't kept, out.
+    fn remove_at(&mut self, k: u32)
+        requires place { k < length self.old.list }
+        requires spare { (entry self.old.list k).1 ≡ false }
+        ensures list { self.new.list ≡ remove self.old.list k }
+        ensures spare { self.new.spare ≡ self.old.spare + 1 }
+        ensures place { SamePlace self.old self.new }
+        ensures order { IsStar self.new }
+    {
+        let _gone = self.list.remove(k as usize);
+        let _unlinked = self.links.remove(k as usize);
+        self.spare += 1;
+    }
+
+    /// The same star again, without room for further neighbours.
     pub fn copy(&self, points: &Points) -> Result<Star, NoMemory>
         requires { points.now ≡ self.now.points }
         ensures list { IfOk result (λ s. s.list ≡ self.now.list) }
@@ -263,6 +338,9 @@ impl Star {
         Ok(Star {
             centre: self.centre,
             list: self.list.clone()?,
+            links: self.links.clone()?,
+            misses: self.misses,
+            spare: 0,
             points: Snapshot::of(points),
         })
     }

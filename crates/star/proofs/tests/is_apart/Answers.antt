@@ -1,5 +1,5 @@
 use Rattle.std.proofs.Common.{ap, ℕ, Bool}
-use Rattle.star.proofs.Turning.{apart_before, apart_after}
+use Rattle.star.proofs.Deciding.{apart_before, apart_after}
 use Rattle.star.proofs.tests.is_apart.Goals as goal
 
 pub returns-then-is_before : goal.returns-then-is_before

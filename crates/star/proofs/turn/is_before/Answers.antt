@@ -1,6 +1,6 @@
 use Rattle.plane.specs.Geometry.{point}
 use Rattle.plane.proofs.laws.Border.{points_differ}
-use Rattle.star.proofs.Turning.{decided_same, decided_other, same_bits, other_bits}
+use Rattle.star.proofs.Deciding.{decided_same, decided_other, same_bits, other_bits}
 use Rattle.star.proofs.turn.is_before.Goals as goal
 
 pub returns-then-upper-is_upper : goal.returns-then-upper-is_upper

@@ -1,0 +1,4 @@
+pub mod Turning
+pub mod Marks
+pub mod StarOf
+pub mod Needs

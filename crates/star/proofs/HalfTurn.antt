@@ -5,7 +5,7 @@ use Rattle.std.proofs.Math.IntN.{*ℤ_comm}
 use Rattle.plane.specs.declared.coordinates.Point.{Point}
 use Rattle.plane.specs.Geometry.{area, scalar, LiesBetween}
 use Rattle.number_laws.proofs.Products.{mul_neg, neg_mul}
-use Rattle.number_laws.proofs.Signs.{cancel_strict, negative_or, positive_positive, positive_negative, negative_positive, negative_negative, zero_left, zero_right}
+use Rattle.number_laws.proofs.Signs.{cancel_strict, negative_or, positive_positive, negative_positive, negative_negative, zero_left, zero_right}
 use Rattle.plane.proofs.laws.Area.{area_back}
 use Rattle.plane_laws.proofs.Steps.{turn_first, turn_last, turn_weak}
 use Rattle.star.specs.Turn.{IsUpper, IsLower, AreInOneHalf}

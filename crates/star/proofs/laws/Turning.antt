@@ -1,7 +1,6 @@
 -- The order of directions round a centre is strict and total, and what it says of orientation.
-use Rattle.std.proofs.Common.{◌≡◌, ◌≢◌, ℤ, pos, ◌+ℤ◌, ◌-ℤ◌, ◌*ℤ◌, neg_ℤ, ◌<ℤ◌, ◌≤ℤ◌, ◌⊎◌, inl, inr, arith, sym, ◌∙◌, ap}
+use Rattle.std.proofs.Common.{◌≡◌, ◌≢◌, ℤ, pos, ◌-ℤ◌, neg_ℤ, ◌<ℤ◌, ◌≤ℤ◌, ◌⊎◌, inl, inr, arith}
 use Rattle.std.proofs.lemmas.Int.{ints}
-use Rattle.std.proofs.Math.IntN.{*ℤ_comm}
 use Rattle.plane.specs.declared.coordinates.Point.{Point}
 use Rattle.plane.specs.Geometry.{area}
 use Rattle.number_laws.proofs.Signs.{negative_or, positive_positive, mul_weak, cancel_strict, zero_right}
@@ -21,13 +20,13 @@ high x y (inr h) = omega (arith, ints)
 -- within the upper half, turning left twice is turning left
 pub turn_on : (ux uy vx vy wx wy : ℤ) → Up ux uy → Up vx vy → Up wx wy → pos 0 <ℤ cross ux uy vx vy → pos 0 <ℤ cross vx vy wx wy → pos 0 <ℤ cross ux uy wx wy
 turn_on ux uy vx vy wx wy hu (inr hv) hw uv vw =
-    absurd (let e = zero_right ux vy hv.0 in let f = mul_weak uy vx (high ux uy hu) hv.1 in omega (arith, ints))
+    absurd (let e = zero_right ux vy hv.0 in let f = mul_weak uy vx (high ux uy hu) (omega (arith, ints, hv.1)) in omega (arith, ints))
 turn_on ux uy vx vy wx wy hu (inl hv) (inr hw) uv vw =
     absurd (let e = zero_right vx wy hw.0 in let f = positive_positive vy wx hv hw.1 in omega (arith, ints))
 turn_on ux uy vx vy wx wy hu (inl hv) (inl hw) uv vw =
     cancel_strict vy (cross ux uy wx wy) hv (
     let e = three_upward ux uy vx vy wx wy in
-    let f = mul_weak uy (cross vx vy wx wy) (high ux uy hu) vw in
+    let f = mul_weak uy (cross vx vy wx wy) (high ux uy hu) (omega (arith, ints, vw)) in
     let g = positive_positive wy (cross ux uy vx vy) hw uv in
     omega (arith, ints)
     )

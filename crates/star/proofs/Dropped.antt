@@ -6,7 +6,7 @@ use Rattle.star.specs.Stars.{entry, IsOrderly}
 use Rattle.star.specs.declared.links.Link.{Link}
 use Rattle.star.specs.Gaps.{IsKept, IsKeptAfter, IsKeptBefore, IsWide}
 use Rattle.star.specs.Links.{link, IsRightLink, HasRightLinks, HasLink, IsTakenOut, MissesWithoutPlace}
-use Rattle.star.proofs.laws.Marks.{stands_once}
+use Rattle.star.proofs.laws.Marks.{one_position}
 use Rattle.star.proofs.Listed.{orderly_marked}
 use Rattle.star.proofs.Sooner.{sooner_differ}
 use Rattle.number_laws.proofs.Naturals.{equal_or_not}
@@ -117,10 +117,10 @@ link_in S c list links w k ar kk =
     )
 
 pub seat_before : (S : List Point) (c : ℕ) (list : List (ℕ × Bool)) (links : List Link) (w : Bool) (k a : ℕ) → HasRightLinks S c list links w → IsKept list k → a < length list → (entry list a).0 ≡ (link links k).before → IsKeptBefore list k a
-seat_before S c list links w k a ar kk ha at = let r = ar.right k kk in subst (λ x. IsKeptBefore list k x) (sym (stands_once S c list a r.first ar.order ha r.before.kept.0 (at ∙ sym r.before_name))) r.before
+seat_before S c list links w k a ar kk ha at = let r = ar.right k kk in subst (λ x. IsKeptBefore list k x) (sym (one_position S c list a r.first ar.order ha r.before.kept.0 (at ∙ sym r.before_name))) r.before
 
 pub seat_after : (S : List Point) (c : ℕ) (list : List (ℕ × Bool)) (links : List Link) (w : Bool) (k b : ℕ) → HasRightLinks S c list links w → IsKept list k → b < length list → (entry list b).0 ≡ (link links k).after → IsKeptAfter list k b
-seat_after S c list links w k b ar kk hb at = let r = ar.right k kk in subst (λ x. IsKeptAfter list k x) (sym (stands_once S c list b r.second ar.order hb r.after.kept.0 (at ∙ sym r.after_name))) r.after
+seat_after S c list links w k b ar kk hb at = let r = ar.right k kk in subst (λ x. IsKeptAfter list k x) (sym (one_position S c list b r.second ar.order hb r.after.kept.0 (at ∙ sym r.after_name))) r.after
 
 pub drop_by : (S P : List Point) (c : ℕ) (list xs ys : List (ℕ × Bool)) (links ms ns : List Link) (w w' : Bool) (k q n a b : ℕ) (gone : Link) → HasRightLinks S c list links w → IsKept list k → gone ≡ link links k → q ≡ (entry list k).0
     → (IsTrue w' ↔ MissesWithoutPlace S c list k) → gone.before ≢ q → P ≡ S → xs ≡ list → ys ≡ list → a < length xs → (entry xs a).0 ≡ gone.before → b < length ys → (entry ys b).0 ≡ gone.after → ms ≡ links → length ms ≡ n

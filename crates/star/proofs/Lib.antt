@@ -14,3 +14,4 @@ pub mod Dropped
 pub mod Marked
 pub mod Moved
 pub mod Halving
+pub mod Crossings

@@ -8,7 +8,7 @@ use Rattle.star.specs.Stars.{Seen, entry}
 use Rattle.subdivision.specs.State.{star_at}
 use Rattle.subdivision.specs.Listing.{picks, IsTidy, IsPicked, HasRow, HasRows, Takes}
 use Rattle.plane.proofs.laws.Pairs.{pair_same}
-use Rattle.subdivision.proofs.Lists.{has_of, contains_of, has_at, has_append, append_has}
+use Rattle.partition_defs.proofs.laws.Has.{has_of, contains_of, has_at, has_append, append_has}
 use Rattle.subdivision.proofs.Members.{neighbour_of, has_neighbour, mark_of, has_mark}
 
 contains_more : (list : List Pair) (p e : Pair) → Contains (list ++ p ∷ []) e ↔ (Contains list e ⊎ (p ≡ e))

@@ -1,31 +1,28 @@
 -- How the stars grow by one segment, and why there is a place for it.
-use Rattle.std.proofs.Common.{◌≡◌, ◌≢◌, ℕ, ◌+◌, ◌<◌, Bool, true, List, [], ◌∷◌, ◌++◌, length, get_or, set, take, slice_index_or, ℤ, pos, ◌+ℤ◌, ◌-ℤ◌, ◌*ℤ◌, neg_ℤ, ◌<ℤ◌, ◌⊎◌, inl, inr, ◌↔◌, arith, sym, ◌∙◌, ap, subst, refl, get_or-set_other}
-use Rattle.std.proofs.lemmas.Int.{ints}
+use Rattle.std.proofs.Common.{◌≡◌, ◌≢◌, ℕ, ◌+◌, ◌<◌, Bool, true, List, [], ◌∷◌, ◌++◌, length, get_or, set, take, slice_index_or, ◌⊎◌, inl, inr, ◌↔◌, arith, sym, ◌∙◌, ap, subst, refl, get_or-set_other}
 use Rattle.std.proofs.lemmas.Bool.{cases_lt}
 use Rattle.std.proofs.lemmas.List.{get_or_default, get_or-take, length-take, get_or_append_left, get_or_push, take_more}
 use Rattle.std.proofs.Math.Seq.{take-append_seam}
 use Rattle.plane.specs.declared.coordinates.Point.{Point}
 use Rattle.plane.specs.declared.segment.Pair.{Pair}
-use Rattle.plane.specs.Geometry.{point, area, scalar, LiesBetween, IsBetween, AreOpposite}
+use Rattle.plane.specs.Geometry.{point, IsBetween}
 use Rattle.plane.specs.Accepted.{AreAccepted}
-use Rattle.plane.proofs.laws.Area.{area_back}
 use Rattle.plane.proofs.laws.Along.{between_swap, one_between}
-use Rattle.plane.proofs.laws.Opposite.{opposite_steps}
-use Rattle.number_laws.proofs.Signs.{positive_positive, positive_negative, negative_positive, zero_left, zero_right}
-use Rattle.number_laws.proofs.Products.{neg_mul, mul_neg}
 use Rattle.plane.proofs.laws.Border.{points_differ}
 use Rattle.plane.proofs.laws.Pairs.{pair_same}
 use Rattle.partition_defs.specs.Partition.{HasEnds, Joins}
 use Rattle.partition_defs.specs.Triangulation.{IsTriangulation, AreDistinct}
-use Rattle.star.specs.Turn.{AreInOneHalf, IsInDirection}
+use Rattle.star.specs.Turn.{IsInDirection}
 use Rattle.star.specs.Stars.{Seen, IsStar, IsNeighbour, HasMark, SamePlace, Gains, Marks, IsFree, entry}
 use Rattle.star.specs.StarOf.{IsStarOf}
-use Rattle.star.proofs.Turning.{Up, up, down}
-use Rattle.star.proofs.Changes.{gains_neighbour, gains_mark, marks_neighbour, keeps_mark}
+use Rattle.star.proofs.laws.Marks.{gains_neighbour, gains_mark, marks_neighbour, keeps_mark}
+use Rattle.star.proofs.laws.Directions.{not_opposed}
+use Rattle.number_laws.proofs.Naturals.{equal_or_not}
 use Rattle.subdivision.specs.State.{star_at, AreStarsOf}
 use Rattle.subdivision.specs.Joining.{Links, LinksEnds}
-use Rattle.subdivision.proofs.Lists.{Has, has_of, contains_of, has_append, append_has}
-use Rattle.subdivision.proofs.Members.{joined, joins_of, marked_neighbour}
+use Rattle.partition_defs.proofs.laws.Has.{Has, has_of, contains_of, has_append, append_has}
+use Rattle.partition_defs.proofs.laws.Joined.{joined, joins_of}
+use Rattle.star.proofs.laws.Marks.{marked_neighbour}
 
 same_list_neighbour : (old mid : Seen) → mid.list ≡ old.list → (u : ℕ) → IsNeighbour mid u ↔ IsNeighbour old u
 same_list_neighbour old mid e u =
@@ -62,43 +59,6 @@ free_at stars i k w u d ei ew h free =
 
 pub free_after : (stars : List Seen) (l i k w u : ℕ) (t d : Seen) → i ≡ k → w ≡ u → i ≢ l → k < length stars → IsFree (star_at stars k) u → IsFree (slice_index_or (set stars l t) i d) w
 free_after stars l i k w u t d ei ew ne h free = subst (λ (s : Seen). IsFree s w) (sym (get_or-set_other stars l i t d ne)) (free_at stars i k w u d ei ew h free)
-
--- two steps up aren't opposite
-not_opposed_up : (ux uy rx ry : ℤ) → Up ux uy → Up rx ry → ux *ℤ ry -ℤ uy *ℤ rx ≡ pos 0 → ¬ ((ux *ℤ rx +ℤ uy *ℤ ry) <ℤ pos 0)
-not_opposed_up ux uy rx ry hu hr line away = elim (opposite_steps ux uy rx ry line away) [
-  | inl o ↦ across o hu hr
-  | inr (a, b, o) ↦ upward hu hr o
-]
-  where
-    upward : Up ux uy → Up rx ry → AreOpposite uy ry → ⊥
-    upward (inl a) (inl b) (inl o) = omega (arith, ints, o.0)
-    upward (inl a) (inl b) (inr o) = omega (arith, ints, o.1)
-    upward (inl a) (inr b) (inl o) = omega (arith, ints, o.0)
-    upward (inl a) (inr b) (inr o) = omega (arith, ints, o.1, b.0)
-    upward (inr a) b (inl o) = omega (arith, ints, o.0, a.0)
-    upward (inr a) b (inr o) = omega (arith, ints, o.0, a.0)
-
-    across : AreOpposite ux rx → Up ux uy → Up rx ry → ⊥
-    across (inl o) (inr a) b = omega (arith, ints, o.0, a.1)
-    across (inl o) (inl a) (inl b) = let p = negative_positive ux ry o.0 b in let q = positive_positive uy rx a o.1 in omega (arith, ints)
-    across (inl o) (inl a) (inr b) = let p = zero_right ux ry b.0 in let q = positive_positive uy rx a o.1 in omega (arith, ints)
-    across (inr o) a (inr b) = omega (arith, ints, o.1, b.1)
-    across (inr o) (inl a) (inl b) = let p = positive_positive ux ry o.0 b in let q = positive_negative uy rx a o.1 in omega (arith, ints)
-    across (inr o) (inr a) (inl b) = let p = positive_positive ux ry o.0 b in let q = zero_left uy rx a.0 in omega (arith, ints)
-
-neg_product : (a b : ℤ) → neg_ℤ a *ℤ neg_ℤ b ≡ a *ℤ b
-neg_product a b = let e = neg_mul a (neg_ℤ b) in let f = mul_neg a b in omega (arith, ints)
-
--- a point doesn't lie between two points in one half of the directions from it
-not_opposed : (c q r : Point) → AreInOneHalf c q r → ¬ LiesBetween c q r
-unfolding area scalar
-not_opposed c q r (inl h) (line, away) =
-    not_opposed_up (q.x -ℤ c.x) (q.y -ℤ c.y) (r.x -ℤ c.x) (r.y -ℤ c.y) (up c q h.0) (up c r h.1) (let e = area_back c q r in omega (arith, ints, e, line)) away
-not_opposed c q r (inr h) (line, away) =
-    let a = neg_product (q.x -ℤ c.x) (r.y -ℤ c.y) in let b = neg_product (q.y -ℤ c.y) (r.x -ℤ c.x) in
-    let x = neg_product (q.x -ℤ c.x) (r.x -ℤ c.x) in let y = neg_product (q.y -ℤ c.y) (r.y -ℤ c.y) in
-    not_opposed_up (neg_ℤ (q.x -ℤ c.x)) (neg_ℤ (q.y -ℤ c.y)) (neg_ℤ (r.x -ℤ c.x)) (neg_ℤ (r.y -ℤ c.y)) (down c q h.0) (down c r h.1)
-    (let e = area_back c q r in omega (arith, ints, e, line)) (omega (arith, ints, away))
 
 -- No neighbour of a among the segments before the k-th stands in the direction of b, where the k-th has the ends a and b.
 pub place_free : (S : List Point) (pairs : List Pair) (k : ℕ) (d : Pair) (a b : ℕ) (s : Seen) → AreAccepted S → AreDistinct pairs → IsTriangulation S pairs → k < length pairs → HasEnds (get_or pairs k d) a b → IsStarOf S (take k pairs) (take k pairs) a s → IsFree s b
@@ -197,17 +157,14 @@ same_star S U e v s lo hi so = record {
     old : (u : ℕ) → Joins (U ++ e ∷ []) v u → Joins U v u
     old u h = elim ((joins_more U e v u).0 h) [ inl k ↦ k | inr k ↦ absurd (elim k [ inl x ↦ lo (sym x.0) | inr x ↦ hi (sym x.1) ]) ]
 
-same_number : (m n : ℕ) → (m ≡ n) ⊎ (m ≢ n)
-same_number m n = elim (cases_lt m n) [ inl h ↦ inr (omega arith) | inr h ↦ elim (cases_lt n m) [ inl k ↦ inr (omega arith) | inr k ↦ inl (omega arith) ] ]
-
 pub grown : (S : List Point) (U : List Pair) (e : Pair) (old new : List Seen) → AreStarsOf S U U old → LinksEnds old new e → e.hi < length S → AreStarsOf S (U ++ e ∷ []) (U ++ e ∷ []) new
 grown S U e old new so links high = (links.count ∙ so.0, at)
   where
     at : (v : ℕ) → v < length S → IsStarOf S (U ++ e ∷ []) (U ++ e ∷ []) v (star_at new v)
-    at v h = elim (same_number v e.lo) [
+    at v h = elim (equal_or_not v e.lo) [
       | inl low ↦ (let P : ℕ → Type 0 = λ x. IsStarOf S (U ++ e ∷ []) (U ++ e ∷ []) x (star_at new x) in
           subst P (sym low) (grown_star S U e e.lo e.hi (star_at old e.lo) (star_at new e.lo) (inl (refl, refl)) (λ z. omega (arith, e.ordered)) (so.1 e.lo (omega (arith, e.ordered))) links.lower))
-      | inr not_low ↦ elim (same_number v e.hi) [
+      | inr not_low ↦ elim (equal_or_not v e.hi) [
         | inl top ↦ (let P : ℕ → Type 0 = λ x. IsStarOf S (U ++ e ∷ []) (U ++ e ∷ []) x (star_at new x) in
             subst P (sym top) (grown_star S U e e.hi e.lo (star_at old e.hi) (star_at new e.hi) (inr (refl, refl)) (λ z. omega (arith, e.ordered)) (so.1 e.hi high) links.upper))
         | inr not_top ↦ subst (IsStarOf S (U ++ e ∷ []) (U ++ e ∷ []) v) (sym (links.others v not_low not_top)) (same_star S U e v (star_at old v) not_low not_top (so.1 v h))

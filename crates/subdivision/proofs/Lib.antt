@@ -1,6 +1,5 @@
-pub mod Lists
+pub mod Rows
 pub mod Members
-pub mod Apexes
 pub mod Growing
 pub mod Collected
 pub mod Sorting

@@ -1,60 +1,22 @@
--- What the stars of a triangulation tell of its segments.
-use Rattle.std.proofs.Common.{◌≡◌, ℕ, ◌<◌, Bool, true, false, ◌&&◌, nat_eq, List, length, filter, inl, inr, arith, sym, ◌∙◌, ap, subst, refl}
-use Rattle.std.specs.List.{Contains}
-use Rattle.std.proofs.lemmas.Bool.{false≢true}
+-- What the stars of a triangulation tell of its pairs.
+use Rattle.std.proofs.Common.{◌≡◌, ℕ, ◌<◌, Bool, true, false, ◌&&◌, nat_eq, List, length, filter, arith, sym, ◌∙◌, ap, subst, refl}
 use Rattle.std.proofs.lemmas.Bool.Decides.{Decides-eqb}
 use Rattle.std.proofs.lemmas.List.{get_or_default}
 use Rattle.std.proofs.lemmas.List.Folds.{Any-from_list_any, list_any_at}
+use Rattle.number_laws.proofs.Truth.{and_true, true_and}
 use Rattle.plane.specs.declared.coordinates.Point.{Point}
 use Rattle.plane.specs.declared.segment.Pair.{Pair}
-use Rattle.partition_defs.specs.Partition.{HasEnds, Joins}
-use Rattle.partition_defs.specs.Triangulation.{IsTriangulation, IsApex}
+use Rattle.partition_defs.specs.Triangulation.{IsTriangulation}
+use Rattle.partition_defs.specs.Ascending.{IsAscending}
+use Rattle.partition_defs.specs.Sets.{AreSame}
+use Rattle.partition_defs.proofs.laws.Has.{Has, contains_of, has_filter, filter_has}
+use Rattle.partition_defs.proofs.laws.Joined.{joined, joins_of, join_own, join_ends, has_joined, triangulation_same, same_lists}
 use Rattle.star.specs.Stars.{Seen, entry, IsNeighbour, HasMark}
 use Rattle.star.specs.StarOf.{IsStarOf}
-use Rattle.subdivision.specs.Ascending.{IsAscending}
+use Rattle.star.proofs.laws.Marks.{marked_neighbour}
 use Rattle.subdivision.specs.Every.{every_pair}
-use Rattle.subdivision.specs.State.{State, star_at, has, keeps, all_of, kept_of, AreStarsOf, AreOf, AreAgreed, IsSubdivision, AreSame}
-use Rattle.plane.proofs.laws.Pairs.{pair_same}
-use Rattle.subdivision.proofs.Lists.{Has, has_of, contains_of, has_filter, filter_has, has_rows, rows_has, chosen_ascending, one_list, rises_of}
-
--- the segment of a list with these ends
-pub joined : (T : List Pair) (i j : ℕ) → Joins T i j → (e : Pair) × Has e T × HasEnds e i j
-joined T i j (k, e, h, at, ends) = (e, has_of T e (k, h, at), ends)
-
-pub joins_of : (T : List Pair) (e : Pair) (i j : ℕ) → Has e T → HasEnds e i j → Joins T i j
-joins_of T e i j h ends = let (k, l, at) = contains_of T e h in (k, e, l, at, ends)
-
-ends_back : (e : Pair) (i j : ℕ) → HasEnds e i j → HasEnds e j i
-ends_back e i j (inl h) = inr h
-ends_back e i j (inr h) = inl h
-
-pub join_back : (T : List Pair) (i j : ℕ) → Joins T i j → Joins T j i
-join_back T i j h = let (e, m, ends) = joined T i j h in joins_of T e j i m (ends_back e i j ends)
-
--- a segment's own ends
-pub join_own : (T : List Pair) (e : Pair) → Has e T → Joins T e.lo e.hi
-join_own T e h = joins_of T e e.lo e.hi h (inl (refl, refl))
-
--- ends that a segment has are joined where its own are
-pub join_ends : (T : List Pair) (e : Pair) (i j : ℕ) → HasEnds e i j → Joins T e.lo e.hi → Joins T i j
-join_ends T e i j (inl (a, b)) h = let P : ℕ → Type 0 = λ x. Joins T x j in let Q : ℕ → Type 0 = λ y. Joins T e.lo y in subst P a (subst Q b h)
-join_ends T e i j (inr (a, b)) h = join_back T j i (let P : ℕ → Type 0 = λ x. Joins T x i in let Q : ℕ → Type 0 = λ y. Joins T e.lo y in subst P a (subst Q b h))
-
--- a segment whose ends are joined in a list is in it
-pub has_joined : (T : List Pair) (e : Pair) → Joins T e.lo e.hi → Has e T
-has_joined T e h = let (f, m, ends) = joined T e.lo e.hi h in
-    elim ends [
-      | inl w ↦ subst (λ z. Has z T) (pair_same f e w.0 w.1) m
-      | inr w ↦ absurd (omega (arith, w.0, w.1, e.ordered, f.ordered))
-    ]
-
-and_true : (a b : Bool) → (a && b) ≡ true → (a ≡ true) × (b ≡ true)
-and_true true b h = (refl, h)
-and_true false b h = absurd (false≢true h)
-
-true_and : (a b : Bool) → a ≡ true → b ≡ true → (a && b) ≡ true
-true_and true b h k = k
-true_and false b h k = absurd (false≢true h)
+use Rattle.subdivision.specs.State.{State, star_at, has, keeps, all_of, kept_of, AreStarsOf, AreOf, AreAgreed, IsSubdivision}
+use Rattle.subdivision.proofs.Rows.{has_rows, rows_has, chosen_ascending}
 
 pub neighbour_of : (s : Seen) (w : ℕ) → has s w ≡ true → IsNeighbour s w
 neighbour_of s w t =
@@ -75,9 +37,6 @@ pub has_mark : (s : Seen) (w : ℕ) → HasMark s w true → keeps s w ≡ true
 has_mark s w (k, h, at) =
     list_any_at (λ (e : ℕ × Bool). nat_eq e.0 w && e.1) s.list k (0, false) h
     (true_and (nat_eq (entry s.list k).0 w) (entry s.list k).1 ((Decides-eqb (entry s.list k).0 w).1 (ap (λ (p : ℕ × Bool). p.0) at)) (ap (λ (p : ℕ × Bool). p.1) at))
-
-pub marked_neighbour : (s : Seen) (w : ℕ) (b : Bool) → HasMark s w b → IsNeighbour s w
-marked_neighbour s w b (k, h, at) = (k, (h, ap (λ (p : ℕ × Bool). p.0) at))
 
 pub chosen : (p : Pair → Bool) (n : ℕ) (e : Pair) → Has e (filter p (every_pair n)) → (e.hi < n) × (p e ≡ true)
 chosen p n e h = let r = has_filter p (every_pair n) e h in let s = has_rows 0 n e r.0 in (omega (arith, s.1), r.1)
@@ -115,25 +74,6 @@ kept_joins S T K stars so i j = (
       joins_of (kept_of stars) e i j (choose (λ e. keeps (star_at stars e.lo) e.hi) (length stars) e (omega (arith, so.round.0, high))
       (has_mark (star_at stars e.lo) e.hi ((star.marks e.hi ((star.neighbours e.hi).1 there)).1 own))) ends),
 )
-
-pub contains_same : (T U : List Pair) → AreSame T U → (e : Pair) → Contains T e → Contains U e
-contains_same T U same e h = contains_of U e (has_joined U e ((same e.lo e.hi).0 (join_own T e (has_of T e h))))
-
-apex_same : (S : List Point) (T U : List Pair) → AreSame T U → (p q r : ℕ) → IsApex S T p q r → IsApex S U p q r
-apex_same S T U same p q r a = record { within = a.within; first = (same p r).0 a.first; second = (same q r).0 a.second; left = a.left; empty = a.empty }
-
--- being a triangulation is a matter of membership
-pub triangulation_same : (S : List Point) (T U : List Pair) → AreSame T U → IsTriangulation S T → IsTriangulation S U
-triangulation_same S T U same tri =
-    let back : AreSame U T = λ i j. ((same i j).1, (same i j).0) in
-    record {
-      within = λ e h. tri.within e (contains_same U T back e h);
-      clear = λ e h. tri.clear e (contains_same U T back e h);
-      plane = λ e f h k. tri.plane e f (contains_same U T back e h) (contains_same U T back f k);
-      border = λ i j ij hj b. (same i j).0 (tri.border i j ij hj b);
-      met = λ p h. (let (q, hq, j) = tri.met p h in (q, hq, (same p q).0 j));
-      apex = λ p q j l. (let (r, a) = tri.apex p q ((same p q).1 j) l in (r, apex_same S T U same p q r a));
-    }
 
 star_same : (S : List Point) (T K U L : List Pair) (v : ℕ) (s : Seen) → AreSame T U → AreSame K L → IsStarOf S T K v s → IsStarOf S U L v s
 star_same S T K U L v s all kept so = record {
@@ -173,13 +113,6 @@ subdivision_own S stars so = subdivision_of (record { points = S; all = all_of s
 
 pub vertex_of : (s : State) (v : ℕ) (t : Seen) → IsSubdivision s → v < length s.points → t ≡ star_at s.stars v → IsStarOf s.points s.all s.kept v t
 vertex_of s v t so h is = subst (IsStarOf s.points s.all s.kept v) (sym is) (so.agreed.round.1 v h)
-
--- ascending lists of the same segments are equal
-pub same_lists : (T U : List Pair) → IsAscending T → IsAscending U → AreSame T U → T ≡ U
-same_lists T U a b same =
-    one_list T U (rises_of T a) (rises_of U b)
-    (λ e h. has_joined U e ((same e.lo e.hi).0 (join_own T e h)))
-    (λ e h. has_joined T e ((same e.lo e.hi).1 (join_own U e h)))
 
 -- the stars of a triangulation whose segments are all kept
 pub all_kept : (S : List Point) (pairs : List Pair) (stars : List Seen) → IsTriangulation S pairs → AreStarsOf S pairs pairs stars → AreOf S pairs pairs stars

@@ -19,12 +19,14 @@ use Rattle.plane.proofs.laws.Area.{area_swap}
 use Rattle.plane.proofs.laws.Pairs.{pair_same}
 use Rattle.star.specs.Turn.{TurnsBefore, IsBeforeInTurn}
 use Rattle.star.specs.Stars.{Seen, entry}
-use Rattle.star.proofs.Turning.{not_both}
-use Rattle.subdivision.specs.Ascending.{ComesFirst, IsAscending}
+use Rattle.star.proofs.laws.Turning.{not_both}
+use Rattle.partition_defs.specs.Ascending.{ComesFirst, IsAscending}
 use Rattle.subdivision.specs.State.{star_at, has, keeps, AreAgreed}
 use Rattle.subdivision.specs.Listing.{picks, picked_of, IsTidy, AreTidy, HasRows, IsSortedFrom}
-use Rattle.subdivision.proofs.Lists.{has_of, contains_of, one_list, rises_of, chosen_ascending}
-use Rattle.subdivision.proofs.Members.{neighbour_of, mark_of, marked_neighbour, chosen, choose}
+use Rattle.partition_defs.proofs.laws.Has.{has_of, contains_of, one_list, rises_of}
+use Rattle.subdivision.proofs.Rows.{chosen_ascending}
+use Rattle.star.proofs.laws.Marks.{marked_neighbour}
+use Rattle.subdivision.proofs.Members.{neighbour_of, mark_of, chosen, choose}
 
 -- what the comparison of two segments says
 pub not_first : (a b : Pair) → is_lt (ordering_then (nat_cmp b.lo a.lo) (nat_cmp b.hi a.hi)) ≡ false → ¬ ComesFirst b a

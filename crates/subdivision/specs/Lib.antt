@@ -1,4 +1,3 @@
-pub mod Ascending
 pub mod Rising
 pub mod Every
 pub mod State

@@ -3,7 +3,7 @@ use Rattle.std.specs.Prelude.{◌≡◌, ◌≢◌, ℕ, ◌+◌, ◌<◌, ◌�
 use Rattle.std.specs.List.{AllPairs, Contains}
 use Rattle.plane.specs.declared.segment.Pair.{Pair}
 use Rattle.star.specs.Stars.{Seen, entry}
-use Rattle.subdivision.specs.Ascending.{ComesFirst}
+use Rattle.partition_defs.specs.Ascending.{ComesFirst}
 use Rattle.subdivision.specs.State.{star_at, has, keeps, all_of, kept_of}
 
 -- whether w is a neighbour, where the kept ones alone are wanted a kept one

@@ -1,5 +1,5 @@
 -- A triangulation with its kept segments, told by the stars of all points.
-use Rattle.std.specs.Prelude.{◌≡◌, ℕ, ◌<◌, ◌↔◌, Bool, ◌&&◌, nat_eq, List, [], length, filter, slice_index_or, slice_get, Option, Some, None}
+use Rattle.std.specs.Prelude.{◌≡◌, ℕ, ◌<◌, Bool, ◌&&◌, nat_eq, List, [], length, filter, slice_index_or, slice_get, Option, Some, None}
 use Rattle.std.specs.List.{list_any}
 use Rattle.plane.specs.declared.coordinates.Point.{Point}
 use Rattle.plane.specs.declared.segment.Pair.{Pair}
@@ -7,7 +7,8 @@ use Rattle.partition_defs.specs.Partition.{Joins}
 use Rattle.partition_defs.specs.Triangulation.{IsTriangulation, IsApex, HasLeft}
 use Rattle.star.specs.Stars.{Seen}
 use Rattle.star.specs.StarOf.{IsStarOf}
-use Rattle.subdivision.specs.Ascending.{IsAscending}
+use Rattle.partition_defs.specs.Ascending.{IsAscending}
+use Rattle.partition_defs.specs.Sets.{AreAmong}
 use Rattle.subdivision.specs.Every.{every_pair}
 
 -- what contracts see of a subdivision: its points, its segments and those that are kept, ascending, and the stars
@@ -38,10 +39,6 @@ all_of stars = filter (λ e. has (star_at stars e.lo) e.hi) (every_pair (length 
 abbrev pub kept_of : List Seen → List Pair
 kept_of stars = filter (λ e. keeps (star_at stars e.lo) e.hi) (every_pair (length stars))
 
--- each segment of K is in T
-abbrev pub AreAmong : (K T : List Pair) → Type 0
-AreAmong K T = (i j : ℕ) → Joins K i j → Joins T i j
-
 -- each star is that of its vertex in (T, K)
 abbrev pub AreStarsOf : List Point → (T K : List Pair) → List Seen → Type 0
 AreStarsOf S T K stars = (length stars ≡ length S) × ((v : ℕ) → v < length S → IsStarOf S T K v (star_at stars v))
@@ -61,10 +58,6 @@ pub record IsSubdivision (s : State) : Type 0 where
   pub ascending : IsAscending s.all
   pub kept_ascending : IsAscending s.kept
   pub agreed : AreOf s.points s.all s.kept s.stars
-
--- the two lists have the same segments
-abbrev pub AreSame : (T U : List Pair) → Type 0
-AreSame T U = (i j : ℕ) → Joins T i j ↔ Joins U i j
 
 -- the apex of p to q, which alone is one, or none where p-q isn't a segment or no point is left of it
 abbrev pub IsApexOrNone : List Point → List Pair → (p q : ℕ) → Option ℕ → Type 0

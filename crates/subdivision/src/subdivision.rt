@@ -5,7 +5,8 @@ ghost use Rattle.plane.specs.Geometry.{orientation};
 ghost use Rattle.partition_defs.specs.Triangulation.{IsTriangulation, AreDistinct};
 ghost use Rattle.star.specs.Stars.{Seen, IsStar};
 ghost use Rattle.star.specs.StarOf.{IsStarOf};
-ghost use Rattle.subdivision.specs.State.{State, star_or_none, star_at, AreOf, AreAgreed, AreSame, IsSubdivision, IsApexOrNone};
+ghost use Rattle.partition_defs.specs.Sets.{AreSame};
+ghost use Rattle.subdivision.specs.State.{State, star_or_none, star_at, AreOf, AreAgreed, IsSubdivision, IsApexOrNone};
 
 use crate::joining::stars_of;
 use crate::listing::listed;

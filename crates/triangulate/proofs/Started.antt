@@ -4,11 +4,12 @@ use Rattle.std.specs.List.{Contains}
 use Rattle.plane.specs.declared.coordinates.Point.{Point}
 use Rattle.plane.specs.declared.segment.Pair.{Pair}
 use Rattle.partition_defs.specs.Partition.{Joins}
-use Rattle.subdivision.specs.Ascending.{IsAscending}
-use Rattle.subdivision.specs.State.{State, AreSame, IsSubdivision}
+use Rattle.partition_defs.specs.Ascending.{IsAscending}
+use Rattle.partition_defs.specs.Sets.{AreSame}
+use Rattle.subdivision.specs.State.{State, IsSubdivision}
 use Rattle.subdivision.specs.Listing.{IsSortedFrom}
-use Rattle.subdivision.proofs.Lists.{has_of, contains_of}
-use Rattle.subdivision.proofs.Members.{joined, joins_of, triangulation_same, same_lists}
+use Rattle.partition_defs.proofs.laws.Has.{has_of, contains_of}
+use Rattle.partition_defs.proofs.laws.Joined.{joined, joins_of, triangulation_same, same_lists}
 use Rattle.subdivision.proofs.Sorting.{sorted_ascends}
 use Rattle.triangulate.specs.Start.{IsStart, IsSortedStart}
 

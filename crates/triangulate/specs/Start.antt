@@ -4,7 +4,7 @@ use Rattle.plane.specs.declared.coordinates.Point.{Point}
 use Rattle.plane.specs.declared.segment.Pair.{Pair}
 use Rattle.partition_defs.specs.Triangulation.{AreDistinct, IsTriangulation, HasTriangulationCount}
 use Rattle.partition_defs.specs.Sweep.{AreSweepPairs}
-use Rattle.subdivision.specs.Ascending.{IsAscending}
+use Rattle.partition_defs.specs.Ascending.{IsAscending}
 use Rattle.triangulate.specs.SweepSet.{IsSweepSet}
 
 -- what the segments of the start are

@@ -2,7 +2,7 @@
 ghost use Rattle.std.specs.Prelude.{◌≡◌, IfOk, OnOk};
 ghost use Rattle.partition_defs.specs.Triangulation.{AreDistinct, IsTriangulation, HasTriangulationCount};
 ghost use Rattle.partition_defs.specs.Sweep.{AreSweepPairs};
-ghost use Rattle.subdivision.specs.Ascending.{IsAscending};
+ghost use Rattle.partition_defs.specs.Ascending.{IsAscending};
 ghost use Rattle.subdivision.specs.State.{IsSubdivision};
 ghost use Rattle.triangulate.specs.SweepSet.{IsSweepSet};
 ghost use Rattle.triangulate.specs.Start.{IsStart, IsSortedStart};

@@ -1,11 +1,11 @@
 -- What an insert, a removal and a mark change of who is a neighbour and who is kept.
-use Rattle.std.proofs.Common.{◌≡◌, ◌≢◌, ℕ, ◌+◌, ◌-◌, ◌<◌, ◌≤◌, Bool, true, false, List, length, set, insert, remove, ◌⊎◌, inl, inr, ◌↔◌, arith, sym, ◌∙◌, ap, subst, get_or-set_other, get_or-set_same, length-set}
+use Rattle.std.proofs.Common.{◌≡◌, ◌≢◌, ℕ, ◌+◌, ◌-◌, ◌<◌, ◌≤◌, Bool, true, false, List, length, set, insert, remove, ◌⊎◌, inl, inr, ◌↔◌, arith, sym, ◌∙◌, ap, subst, get_or-set_other, get_or-set_same, length-set, refl, Some}
 use Rattle.std.proofs.lemmas.Bool.{false≢true, cases_lt}
 use Rattle.std.proofs.lemmas.List.Edits.{length-insert, get_or-insert_below, get_or-insert_at, get_or-insert_above, length-remove, get_or-remove_below, get_or-remove_above}
 use Rattle.plane.specs.declared.coordinates.Point.{Point}
 use Rattle.plane.specs.Geometry.{point}
 use Rattle.star.specs.Turn.{IsBeforeInTurn}
-use Rattle.star.specs.Stars.{Seen, entry, IsOrderly, IsStar, IsNeighbour, HasMark, StandsAt, Marks, Gains, Loses}
+use Rattle.star.specs.Stars.{Seen, entry, IsOrderly, IsStar, IsNeighbour, HasMark, StandsAt, IsNext, around, Marks, Gains, Loses}
 use Rattle.number_laws.proofs.Naturals.{equal_or_not}
 use Rattle.star.proofs.Listed.{place_of, below, here, above}
 use Rattle.star.proofs.laws.Turning.{never_before_itself}
@@ -106,9 +106,9 @@ keeps_mark old new q (k, stands, is) u = (to, from)
       | inr ne ↦ (j, omega (arith, len), ap (λ xs. entry xs j) list_is ∙ get_or-set_other old.list k j (q, true) (0, false) ne ∙ at)
     ]
 
--- each name stands once
-pub stands_once : (S : List Point) (c : ℕ) (list : List (ℕ × Bool)) (i j : ℕ) → IsOrderly S c list → i < length list → j < length list → (entry list i).0 ≡ (entry list j).0 → i ≡ j
-stands_once S c list i j so hi hj e = elim (cases_lt i j) [
+-- each name stands once in a list in order
+pub one_position : (S : List Point) (c : ℕ) (list : List (ℕ × Bool)) (i j : ℕ) → IsOrderly S c list → i < length list → j < length list → (entry list i).0 ≡ (entry list j).0 → i ≡ j
+one_position S c list i j so hi hj e = elim (cases_lt i j) [
   | inl h ↦ absurd (never_before_itself (point S c) (point S (entry list j).0) (subst (λ x. IsBeforeInTurn S c x (entry list j).0) e (so.order i j h hj)))
   | inr h ↦ elim (cases_lt j i) [
     | inl g ↦ absurd (never_before_itself (point S c) (point S (entry list j).0) (subst (λ x. IsBeforeInTurn S c (entry list j).0 x) e (so.order j i g hi)))
@@ -140,7 +140,7 @@ loses_neighbour old new q so (k, stands, is) u = (to, from)
     to (i, (hi, at)) =
         let (j, hj, jk, e) = removed_entry old.list k i stands.0 (subst (λ (xs : List (ℕ × Bool)). i < length xs) is hi) in
         let here : (entry old.list j).0 ≡ u = ap (λ (p : ℕ × Bool). p.0) (sym e) ∙ ap (λ (xs : List (ℕ × Bool)). (entry xs i).0) (sym is) ∙ at in
-        ((j, (hj, here)), λ h. jk (stands_once old.points old.centre old.list j k so hj stands.0 (here ∙ h ∙ sym stands.1)))
+        ((j, (hj, here)), λ h. jk (one_position old.points old.centre old.list j k so hj stands.0 (here ∙ h ∙ sym stands.1)))
 
     from : IsNeighbour old u × (u ≢ q) → IsNeighbour new u
     from ((j, (hj, at)), ne) =
@@ -154,7 +154,7 @@ loses_mark old new q so (k, stands, is) u = (to, from)
     to (i, hi, at) =
         let (j, hj, jk, e) = removed_entry old.list k i stands.0 (subst (λ (xs : List (ℕ × Bool)). i < length xs) is hi) in
         let here : entry old.list j ≡ (u, true) = sym e ∙ ap (λ (xs : List (ℕ × Bool)). entry xs i) (sym is) ∙ at in
-        ((j, hj, here), λ h. jk (stands_once old.points old.centre old.list j k so hj stands.0 (ap (λ (p : ℕ × Bool). p.0) here ∙ h ∙ sym stands.1)))
+        ((j, hj, here), λ h. jk (one_position old.points old.centre old.list j k so hj stands.0 (ap (λ (p : ℕ × Bool). p.0) here ∙ h ∙ sym stands.1)))
 
     from : HasMark old u true × (u ≢ q) → HasMark new u true
     from ((j, hj, at), ne) =
@@ -173,7 +173,7 @@ drops_mark old new q so (k, stands, is) u = (to, from)
       | inr ne ↦
           (let hj' : j < length old.list = omega (arith, ap length list_is ∙ length-set old.list k (q, false)) in
           let here : entry old.list j ≡ (u, true) = sym (get_or-set_other old.list k j (q, false) (0, false) ne) ∙ ap (λ xs. entry xs j) (sym list_is) ∙ at in
-          ((j, hj', here), λ h. ne (stands_once old.points old.centre old.list j k so hj' stands.0 (ap (λ (p : ℕ × Bool). p.0) here ∙ h ∙ sym stands.1))))
+          ((j, hj', here), λ h. ne (one_position old.points old.centre old.list j k so hj' stands.0 (ap (λ (p : ℕ × Bool). p.0) here ∙ h ∙ sym stands.1))))
     ]
 
     from : HasMark old u true × (u ≢ q) → HasMark new u true
@@ -181,14 +181,35 @@ drops_mark old new q so (k, stands, is) u = (to, from)
         let jk : j ≢ k = λ h. ne (sym (ap (λ (p : ℕ × Bool). p.0) at) ∙ ap (λ m. (entry old.list m).0) h ∙ stands.1) in
         (j, omega (arith, ap length list_is ∙ length-set old.list k (q, false)), ap (λ xs. entry xs j) list_is ∙ get_or-set_other old.list k j (q, false) (0, false) jk ∙ at)
 
--- a neighbour has one mark
-pub one_mark : (s : Seen) (b : ℕ) → IsStar s → HasMark s b false → HasMark s b true → ⊥
-one_mark s b so (i, hi, at) (j, hj, there) =
-    let e = stands_once s.points s.centre s.list i j so hi hj (ap (λ (p : ℕ × Bool). p.0) at ∙ sym (ap (λ (p : ℕ × Bool). p.0) there)) in
-    false≢true (ap (λ (p : ℕ × Bool). p.1) (sym at ∙ ap (λ m. entry s.list m) e ∙ there))
-
 -- the mark at the position of a neighbour is its mark
 pub mark_at : (s : Seen) (q k : ℕ) (b : Bool) → IsStar s → HasMark s q b → StandsAt s k q → (entry s.list k).1 ≡ b
 mark_at s q k b so (j, hj, at) stands =
-    let e : j ≡ k = stands_once s.points s.centre s.list j k so hj stands.0 (ap (λ (p : ℕ × Bool). p.0) at ∙ sym stands.1) in
+    let e : j ≡ k = one_position s.points s.centre s.list j k so hj stands.0 (ap (λ (p : ℕ × Bool). p.0) at ∙ sym stands.1) in
     ap (λ i. (entry s.list i).1) (sym e) ∙ ap (λ (p : ℕ × Bool). p.1) at
+
+-- a neighbour stands at one position
+pub stands_once : (s : Seen) (q i j : ℕ) → IsStar s → StandsAt s i q → StandsAt s j q → i ≡ j
+stands_once s q i j so a b = one_position s.points s.centre s.list i j so a.0 b.0 (a.1 ∙ sym b.1)
+
+-- a neighbour has one mark
+pub one_mark : (s : Seen) (q : ℕ) → IsStar s → HasMark s q false → HasMark s q true → ⊥
+one_mark s q so (i, hi, a) marked =
+    false≢true (ap (λ (p : ℕ × Bool). p.1) (sym a) ∙ mark_at s q i true so marked (hi, ap (λ (p : ℕ × Bool). p.0) a))
+
+pub marked_neighbour : (s : Seen) (w : ℕ) (b : Bool) → HasMark s w b → IsNeighbour s w
+marked_neighbour s w b (k, h, at) = (k, (h, ap (λ (p : ℕ × Bool). p.0) at))
+
+-- a neighbour that isn't kept is marked so
+pub unmarked : (s : Seen) (q : ℕ) → IsNeighbour s q → ¬ HasMark s q true → HasMark s q false
+unmarked s q (k, (h, at)) apart = pick ((entry s.list k).1) refl
+  where
+    marked : (b : Bool) → (entry s.list k).1 ≡ b → HasMark s q b
+    marked b e = (k, h, ap (λ (n : ℕ). let p : ℕ × Bool = (n, (entry s.list k).1) in p) at ∙ ap (λ (c : Bool). let p : ℕ × Bool = (q, c) in p) e)
+
+    pick : (b : Bool) → (entry s.list k).1 ≡ b → HasMark s q false
+    pick true e = absurd (apart (marked true e))
+    pick false e = marked false e
+
+-- there is one neighbour after q
+pub one_next : (s : Seen) (q r t : ℕ) → IsStar s → IsNext s q (Some r) → IsNext s q (Some t) → r ≡ t
+one_next s q r t so (i, a, b) (j, c, d) = b ∙ ap (λ m. (entry s.list (around (length s.list) (m + 1))).0) (stands_once s q i j so a c) ∙ sym d

@@ -17,7 +17,7 @@ use Rattle.star.proofs.Gaps.{first_kept_from, met_without_wide_gap, missed_with_
 use Rattle.star.proofs.Splits.{need_or_wide}
 use Rattle.star.proofs.Without.{IsWithout, set_without}
 use Rattle.star.proofs.Answers.{misses_new}
-use Rattle.star.proofs.laws.Marks.{stands_once}
+use Rattle.star.proofs.laws.Marks.{one_position}
 
 -- where no need is missed, all are met
 pub met_of_none_missed : (S : List Point) (c : ℕ) (list : List (ℕ × Bool)) → AreAccepted S → IsOrderly S c list → ¬ MissesSome S c list → MeetsAll S c list
@@ -93,7 +93,7 @@ misses_by_place s k q so stands = (
     ne,
     λ m km mk need.
         missed (entry s.list m).0 (m, km.0, ap (λ (b : Bool). let p : ℕ × Bool = ((entry s.list m).0, b) in p) km.1)
-        (λ e. mk (stands_once s.points s.centre s.list m k so km.0 stands.0 (e ∙ sym stands.1))) need,
+        (λ e. mk (one_position s.points s.centre s.list m k so km.0 stands.0 (e ∙ sym stands.1))) need,
   )),
 )
 
@@ -105,10 +105,9 @@ met_without_of_none_missed s k q ok so kk at none u hu ne =
     let by_place = misses_by_place s k q so (kk.0, at) in
     let (m, km, need) = met_of_none_missed s.points s.centre less ok (orderly_marked s.points s.centre s.list k q false so kk.0 at)
     (λ h. none (by_place.0 ((misses_new s.points s.centre s.list less k w).0 h))) u hu ne in
-    let (mk, old) = w.rest m km in
-    (
+    let (mk, old) = w.rest m km in (
       (entry s.list m).0,
-      λ e. mk (stands_once s.points s.centre s.list m k so old.0 kk.0 (e ∙ sym at)),
+      λ e. mk (one_position s.points s.centre s.list m k so old.0 kk.0 (e ∙ sym at)),
       (m, old.0, ap (λ (b : Bool). let p : ℕ × Bool = ((entry s.list m).0, b) in p) old.1),
       subst (λ x. IsInNeed s.points s.centre u x) (w.names m) need,
     )

@@ -11,7 +11,7 @@ use Rattle.star.specs.Stars.{Seen, entry, IsOrderly, IsStar, IsNeighbour, HasMar
 use Rattle.star.specs.StarOf.{IsStarOf}
 use Rattle.number_laws.proofs.Naturals.{equal_or_not}
 use Rattle.star.proofs.laws.Turning.{before_on, never_before_itself}
-use Rattle.star.proofs.laws.Marks.{stands_once, one_mark, gains_neighbour, gains_mark, gains_spare, marks_neighbour, keeps_mark, drops_mark, loses_neighbour, loses_mark}
+use Rattle.star.proofs.laws.Marks.{one_position, one_mark, gains_neighbour, gains_mark, gains_spare, marks_neighbour, keeps_mark, drops_mark, loses_neighbour, loses_mark}
 
 -- v and w are the ends a and b, either way round
 abbrev pub AreEndsOf : (a b v w : ℕ) → Type 0
@@ -141,7 +141,7 @@ others_take T T' a b v takes va vb w = (
 first_differ : (S : List Point) (c : ℕ) (xs ys : List (ℕ × Bool)) (i : ℕ) → IsOrderly S c xs → IsOrderly S c ys → i < length xs → i < length ys
     → ((j : ℕ) → j < i → (entry xs j).0 ≡ (entry ys j).0) → (m : ℕ) → m < length ys → (entry ys m).0 ≡ (entry xs i).0 → ((entry xs i).0 ≡ (entry ys i).0) ⊎ IsBeforeInTurn S c (entry ys i).0 (entry xs i).0
 first_differ S c xs ys i sx sy hx hy same m hm at = elim (cases_lt m i) [
-  | inl h ↦ absurd (let e = stands_once S c xs m i sx (omega arith) hx (same m h ∙ at) in omega arith)
+  | inl h ↦ absurd (let e = one_position S c xs m i sx (omega arith) hx (same m h ∙ at) in omega arith)
   | inr h ↦ elim (equal_or_not m i) [
     | inl e ↦ inl (sym at ∙ ap (λ k. (entry ys k).0) e)
     | inr ne ↦ inr (subst (λ x. IsBeforeInTurn S c (entry ys i).0 x) at (sy.order i m (omega arith) hm))
@@ -174,7 +174,7 @@ not_longer S c xs ys sx sy to from h =
     let n = length xs in
     let (k, hk, at) = from (entry ys n).0 (n, h, refl) in
     let e : (entry xs k).0 ≡ (entry ys k).0 = names_agree S c xs ys (k + 1) sx sy to from k (omega arith) hk (omega arith) in
-    let z : k ≡ n = stands_once S c ys k n sy (omega arith) h (sym e ∙ at) in
+    let z : k ≡ n = one_position S c ys k n sy (omega arith) h (sym e ∙ at) in
     omega arith
 
 bits : (b d : Bool) → (b ≡ true → d ≡ true) → (d ≡ true → b ≡ true) → b ≡ d
@@ -196,7 +196,7 @@ one_list S c xs ys sx sy to from mark unmark = ext_get_or (0, false) xs ys len e
     moved : (vs ws : List (ℕ × Bool)) → IsOrderly S c ws → ((u : ℕ) → HasMarked vs u → HasMarked ws u) → (i : ℕ) → i < length vs → i < length ws → (entry vs i).0 ≡ (entry ws i).0 → (entry vs i).1 ≡ true → (entry ws i).1 ≡ true
     moved vs ws sw f i hv hw e t =
         let (k, hk, at) = f (entry vs i).0 (i, hv, ap (λ (b : Bool). let p : ℕ × Bool = ((entry vs i).0, b) in p) t) in
-        let z : k ≡ i = stands_once S c ws k i sw hk hw (ap (λ (p : ℕ × Bool). p.0) at ∙ e) in
+        let z : k ≡ i = one_position S c ws k i sw hk hw (ap (λ (p : ℕ × Bool). p.0) at ∙ e) in
         ap (λ m. (entry ws m).1) (sym z) ∙ ap (λ (p : ℕ × Bool). p.1) at
 
     entries : (i : ℕ) → i < length xs → entry xs i ≡ entry ys i
@@ -207,8 +207,8 @@ one_list S c xs ys sx sy to from mark unmark = ext_get_or (0, false) xs ys len e
         (bits (entry xs i).1 (entry ys i).1 (moved xs ys sy mark i h h' e) (moved ys xs sx unmark i h' h (sym e)))
 
 -- the star of v in (T, K) is one list
-pub star_is_one : (S : List Point) (T K : List Pair) (v : ℕ) (s t : Seen) → IsStarOf S T K v s → IsStarOf S T K v t → s.list ≡ t.list
-star_is_one S T K v s t os ot =
+pub one_star : (S : List Point) (T K : List Pair) (v : ℕ) (s t : Seen) → IsStarOf S T K v s → IsStarOf S T K v t → s.list ≡ t.list
+one_star S T K v s t os ot =
     one_list S v s.list t.list (at_v s os) (at_v t ot)
     (λ u h. back t u ((ot.neighbours u).1 ((os.neighbours u).0 (forth s u h))))
     (λ u h. back s u ((os.neighbours u).1 ((ot.neighbours u).0 (forth t u h))))

@@ -1,7 +1,7 @@
 use Rattle.std.proofs.Common.{sym, subst}
 use Rattle.partition_defs.specs.Triangulation.{HasTriangulationCount}
 use Rattle.partition_defs.specs.Sweep.{AreSweepPairs}
-use Rattle.subdivision.specs.Ascending.{IsAscending}
+use Rattle.partition_defs.specs.Ascending.{IsAscending}
 use Rattle.triangulate.specs.SweepSet.{IsSweepSet}
 use Rattle.triangulate.proofs.Started.{has_list}
 use Rattle.triangulate.proofs.starting.start.Goals as goal

@@ -1,7 +1,7 @@
 use Rattle.std.proofs.Common.{subst, pos, ◌<ℤ◌, sym, ◌∙◌}
 use Rattle.std.proofs.lemmas.Bool.{false≢true}
 use Rattle.plane.specs.Geometry.{orientation}
-use Rattle.subdivision.proofs.Apexes.{apex_left, apex_none, apex_apart}
+use Rattle.star.proofs.laws.Apexes.{apex_left, apex_none, apex_apart}
 use Rattle.subdivision.proofs.subdivision.Subdivision.apex.Goals as goal
 
 pub returns-in-None : goal.returns-in-None

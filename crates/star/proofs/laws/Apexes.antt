@@ -1,46 +1,20 @@
--- The neighbour after q in the star of p is the apex of p to q.
+-- In a triangulation the neighbour after q in the star of p is the apex of p to q, where it is left of p to q.
 use Rattle.std.proofs.Common.{◌≡◌, ◌≢◌, ℕ, ◌+◌, ◌<◌, List, length, ℤ, pos, neg_ℤ, ◌<ℤ◌, ◌≤ℤ◌, ◌⊎◌, inl, inr, arith, sym, ◌∙◌, ap, subst, refl, Some, None}
 use Rattle.std.proofs.lemmas.Int.{ints}
-use Rattle.std.proofs.lemmas.Bool.{cases_lt}
 use Rattle.plane.specs.declared.coordinates.Point.{Point}
 use Rattle.plane.specs.declared.segment.Pair.{Pair}
-use Rattle.plane.specs.Geometry.{point, area, orientation, AreOpposite, DoCross, AreCrossing}
-use Rattle.plane.proofs.laws.Area.{area_cycle, area_swap, area_back, area_first}
+use Rattle.plane.specs.Geometry.{point, area, orientation, AreCrossing}
+use Rattle.number_laws.proofs.Naturals.{equal_or_not}
 use Rattle.number_laws.proofs.Signs.{negative_or}
-use Rattle.partition_defs.specs.Partition.{HasEnds, Joins}
-use Rattle.partition_defs.specs.Triangulation.{IsTriangulation, IsApex}
+use Rattle.plane.proofs.laws.Area.{area_cycle, area_swap, area_first, area_second}
+use Rattle.partition_defs.specs.Partition.{Joins}
+use Rattle.partition_defs.specs.Triangulation.{IsTriangulation, IsApex, HasLeft}
+use Rattle.partition_defs.proofs.laws.Has.{contains_of}
+use Rattle.partition_defs.proofs.laws.Joined.{joined}
 use Rattle.star.specs.Stars.{Seen, StandsAt, IsNext, entry, around}
 use Rattle.star.specs.StarOf.{IsStarOf}
+use Rattle.star.proofs.Crossings.{crossing_ends}
 use Rattle.star.proofs.Cyclic.{IsAmid, next_or_amid, around_inside}
-use Rattle.subdivision.specs.State.{IsApexOrNone}
-use Rattle.subdivision.proofs.Lists.{contains_of}
-use Rattle.subdivision.proofs.Members.{joined}
-
-opposite_back : (y z : ℤ) → AreOpposite y z → AreOpposite z y
-opposite_back y z (inl h) = inr (h.1, h.0)
-opposite_back y z (inr h) = inl (h.1, h.0)
-
-opposite_neg : (y z y' z' : ℤ) → y' ≡ neg_ℤ y → z' ≡ neg_ℤ z → AreOpposite y z → AreOpposite y' z'
-opposite_neg y z y' z' ey ez (inl h) = inr (omega (arith, ints, h.0), omega (arith, ints, h.1))
-opposite_neg y z y' z' ey ez (inr h) = inl (omega (arith, ints, h.0), omega (arith, ints, h.1))
-
--- crossing doesn't depend on the order of a segment's ends
-cross_first : (a b c d : Point) → DoCross a b c d → DoCross b a c d
-cross_first a b c d h = (opposite_neg _ _ _ _ (area_back b a c) (area_back b a d) h.0, opposite_back (area c d a) (area c d b) h.1)
-
-cross_second : (a b c d : Point) → DoCross a b c d → DoCross a b d c
-cross_second a b c d h = (opposite_back (area a b c) (area a b d) h.0, opposite_neg _ _ _ _ (area_back d c a) (area_back d c b) h.1)
-
-crossing_ends : (S : List Point) (e f : Pair) (a b c d : ℕ) → HasEnds e a b → HasEnds f c d → AreCrossing S a b c d → AreCrossing S e.lo e.hi f.lo f.hi
-crossing_ends S e f a b c d he hf h = second hf (first he h)
-  where
-    first : HasEnds e a b → AreCrossing S a b c d → AreCrossing S e.lo e.hi c d
-    first (inl (x, y)) k = let P : ℕ → Type 0 = λ i. AreCrossing S i e.hi c d in let Q : ℕ → Type 0 = λ i. AreCrossing S a i c d in subst P (sym x) (subst Q (sym y) k)
-    first (inr (x, y)) k = let P : ℕ → Type 0 = λ i. AreCrossing S i e.hi c d in let Q : ℕ → Type 0 = λ i. AreCrossing S b i c d in subst P (sym x) (subst Q (sym y) (cross_first (point S a) (point S b) (point S c) (point S d) k))
-
-    second : HasEnds f c d → AreCrossing S e.lo e.hi c d → AreCrossing S e.lo e.hi f.lo f.hi
-    second (inl (x, y)) k = let P : ℕ → Type 0 = λ i. AreCrossing S e.lo e.hi i f.hi in let Q : ℕ → Type 0 = λ i. AreCrossing S e.lo e.hi c i in subst P (sym x) (subst Q (sym y) k)
-    second (inr (x, y)) k = let P : ℕ → Type 0 = λ i. AreCrossing S e.lo e.hi i f.hi in let Q : ℕ → Type 0 = λ i. AreCrossing S e.lo e.hi d i in subst P (sym x) (subst Q (sym y) (cross_second (point S e.lo) (point S e.hi) (point S c) (point S d) k))
 
 -- no neighbour of p stands between the sides of the triangle of an apex
 pub none_amid : (S : List Point) (T : List Pair) (p q a s : ℕ) → IsTriangulation S T → IsApex S T p q a → s < length S → Joins T p s → ¬ IsAmid (point S p) (point S q) (point S s) (point S a)
@@ -56,23 +30,17 @@ none_amid S T p q a s tri apex hs join amid =
           tri.plane e f (contains_of T e me) (contains_of T f mf) (crossing_ends S e f p s q a ends sides crossing))
       | inr rest ↦ apex.empty s hs
           (λ h. (let z = area_first (point S p) (point S q) in positive_not (area (point S p) (point S q) (point S s)) (ap (λ i. area (point S p) (point S q) (point S i)) h ∙ z) amid.0))
-          (λ h. (let z = flat (point S p) (point S q) in positive_not (area (point S p) (point S q) (point S s)) (ap (λ i. area (point S p) (point S q) (point S i)) h ∙ z) amid.0))
-          (λ h. (let z = flat (point S p) (point S a) in positive_not (area (point S p) (point S s) (point S a)) (ap (λ i. area (point S p) (point S i) (point S a)) h ∙ z) amid.1))
+          (λ h. (let z = area_second (point S p) (point S q) in positive_not (area (point S p) (point S q) (point S s)) (ap (λ i. area (point S p) (point S q) (point S i)) h ∙ z) amid.0))
+          (λ h. (let z = area_second (point S p) (point S a) in positive_not (area (point S p) (point S s) (point S a)) (ap (λ i. area (point S p) (point S i) (point S a)) h ∙ z) amid.1))
           (omega (arith, ints, amid.0), weak (area (point S q) (point S a) (point S s)) rest, omega (arith, ints, amid.1))
     ]
   where
     positive_not : (z : ℤ) → z ≡ pos 0 → ¬ (pos 0 <ℤ z)
     positive_not z e h = omega (arith, ints)
 
-    flat : (c r : Point) → area c r r ≡ pos 0
-    flat c r = let e = area_swap c r r in omega (arith, ints)
-
     weak : (z : ℤ) → (z ≡ pos 0) ⊎ (pos 0 <ℤ z) → pos 0 ≤ℤ z
     weak z (inl h) = omega (arith, ints)
     weak z (inr h) = omega (arith, ints)
-
-same_number : (m n : ℕ) → (m ≡ n) ⊎ (m ≢ n)
-same_number m n = elim (cases_lt m n) [ inl h ↦ inr (omega arith) | inr h ↦ elim (cases_lt n m) [ inl k ↦ inr (omega arith) | inr k ↦ inl (omega arith) ] ]
 
 -- an apex of p to q is the neighbour after q
 pub apex_is_next : (S : List Point) (T K : List Pair) (p q a k : ℕ) (s : Seen) → IsTriangulation S T → IsStarOf S T K p s → StandsAt s k q → IsApex S T p q a → a ≡ (entry s.list (around (length s.list) (k + 1))).0
@@ -80,7 +48,7 @@ apex_is_next S T K p q a k s tri so stands apex =
     let (j, place) = (so.neighbours a).1 apex.first in
     let hj = place.0 in
     let at = place.1 in
-    elim (same_number j (around (length s.list) (k + 1))) [
+    elim (equal_or_not j (around (length s.list) (k + 1))) [
       | inl e ↦ sym at ∙ ap (λ i. (entry s.list i).0) e
       | inr ne ↦ absurd (between j hj at ne)
     ]
@@ -109,7 +77,7 @@ apex_is_next S T K p q a k s tri so stands apex =
         none_amid S T p q a r tri apex inside ((so.neighbours r).0 (m, (hm, refl))) (subst D at (subst C stands.1 (subst B so.centre (subst A so.points amid))))
 
 -- the neighbour after q is the apex where it is left of p to q
-pub apex_left : (S : List Point) (T K : List Pair) (p q r : ℕ) (s : Seen) → IsTriangulation S T → IsStarOf S T K p s → IsNext s q (Some r) → pos 0 <ℤ orientation S p q r → IsApexOrNone S T p q (Some r)
+pub apex_left : (S : List Point) (T K : List Pair) (p q r : ℕ) (s : Seen) → IsTriangulation S T → IsStarOf S T K p s → IsNext s q (Some r) → pos 0 <ℤ orientation S p q r → Joins T p q × IsApex S T p q r × ((a : ℕ) → IsApex S T p q a → a ≡ r)
 apex_left S T K p q r s tri so (k, stands, is) left =
     let join = (so.neighbours q).0 (k, stands) in
     let m = around (length s.list) (k + 1) in
@@ -119,11 +87,11 @@ apex_left S T K p q r s tri so (k, stands, is) left =
     let only : (b : ℕ) → IsApex S T p q b → b ≡ r = λ b h. apex_is_next S T K p q b k s tri so stands h ∙ sym is in
     (join, subst (λ x. IsApex S T p q x) (only a apex) apex, only)
 
-pub apex_none : (S : List Point) (T K : List Pair) (p q r : ℕ) (s : Seen) → IsTriangulation S T → IsStarOf S T K p s → IsNext s q (Some r) → ¬ (pos 0 <ℤ orientation S p q r) → IsApexOrNone S T p q None
+pub apex_none : (S : List Point) (T K : List Pair) (p q r : ℕ) (s : Seen) → IsTriangulation S T → IsStarOf S T K p s → IsNext s q (Some r) → ¬ (pos 0 <ℤ orientation S p q r) → Joins T p q → ¬ HasLeft S p q
 apex_none S T K p q r s tri so (k, stands, is) right = λ join left.
     let (a, apex) = tri.apex p q join left in
     let same : a ≡ r = apex_is_next S T K p q a k s tri so stands apex ∙ sym is in
     right (subst (λ x. pos 0 <ℤ orientation S p q x) same apex.left)
 
-pub apex_apart : (S : List Point) (T K : List Pair) (p q : ℕ) (s : Seen) → IsStarOf S T K p s → IsNext s q None → IsApexOrNone S T p q None
+pub apex_apart : (S : List Point) (T K : List Pair) (p q : ℕ) (s : Seen) → IsStarOf S T K p s → IsNext s q None → Joins T p q → ¬ HasLeft S p q
 apex_apart S T K p q s so none = λ join left. none ((so.neighbours q).1 join)

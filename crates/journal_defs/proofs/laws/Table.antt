@@ -8,7 +8,7 @@ use Rattle.plane.specs.Geometry.{point, IsInNeed}
 use Rattle.plane.proofs.laws.Area.{area_swap}
 use Rattle.std.proofs.lemmas.Bool.{false≢true, cases_lt}
 use Rattle.star.specs.Turn.{TurnsBefore, IsBeforeInTurn}
-use Rattle.star.proofs.Turning.{not_both}
+use Rattle.star.proofs.laws.Turning.{not_both}
 use Rattle.partition_defs.specs.Partition.{HasEnds, Joins, MeetsNeedsAt}
 use Rattle.partition_defs.specs.Triangulation.{IsApex}
 use Rattle.star.specs.Stars.{Seen, IsStar, IsNeighbour, HasMark, IsNext, StandsAt, entry, around}

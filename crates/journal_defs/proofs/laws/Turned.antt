@@ -21,7 +21,7 @@ use Rattle.partition_defs.specs.Triangulation.{IsTriangulation}
 use Rattle.star.specs.Turn.{IsUpper, IsLower, AreInOneHalf, TurnsBefore, PointTogether, IsBeforeInTurn}
 use Rattle.star.specs.Stars.{Seen, IsNeighbour, HasMark, entry, AreInTurn}
 use Rattle.star.specs.StarOf.{IsStarOf}
-use Rattle.star.proofs.Turning.{Up, up, down, not_both, upper_or_lower, before_on, before_or}
+use Rattle.star.proofs.laws.Turning.{Up, up, down, not_both, upper_or_lower, before_on, before_or}
 use Rattle.partition_defs.proofs.laws.Has.{contains_of}
 use Rattle.partition_defs.proofs.laws.Joined.{joined, among_joins}
 use Rattle.journal_defs.proofs.laws.Apexes.{marked_neighbour}

@@ -1,5 +1,4 @@
 -- What proofs of other crates may cite of this crate.
-pub mod Apexes
 pub mod Members
 pub mod Journal
 pub mod Flips

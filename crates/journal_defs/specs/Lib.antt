@@ -1,6 +1,5 @@
 pub mod Edits
 pub mod Journal
-pub mod Needs
 pub mod Table
 pub mod Agree
 pub mod Neighbours

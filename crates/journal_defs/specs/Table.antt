@@ -7,7 +7,7 @@ use Rattle.plane.specs.Geometry.{orientation, IsBorderPair, IsInner}
 use Rattle.partition_defs.specs.Partition.{HasEnds}
 use Rattle.star.specs.Stars.{Seen, IsNeighbour, HasMark, IsNext}
 use Rattle.journal_defs.specs.Edits.{touches}
-use Rattle.journal_defs.specs.Needs.{MeetsWithout, MissesWithout}
+use Rattle.star.specs.Gaps.{MeetsWithout, MissesWithout}
 use Rattle.journal_defs.specs.declared.edit.Edit.{Edit}
 use Rattle.journal_defs.specs.declared.edit.Edit.TheVariants.{Drop, Keep, Flip}
 use Rattle.journal_defs.specs.declared.edit.Why.{Why}

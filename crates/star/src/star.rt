@@ -1,6 +1,6 @@
 ghost use Rattle.std.specs.Prelude.{◌≡◌, ◌≢◌, ◌+◌, ◌<◌, ◌≤◌, ◌^◌, ℕ, [], length, IfOk, OnOk, OnErr, IsTrue, ◌↔◌, insert, remove, slice_set, vec_len, vec_capacity, true, false};
 ghost use Rattle.star.specs.Stars.{Seen, entry, around, IsStar, IsNeighbour, HasMark, StandsAt, IsPlace, IsNext, IsFirstKept, IsFirstKeptOrNone, IsKeptNext, Marks, SamePlace, Gains, Loses, IsFree};
-ghost use Rattle.star.specs.Gaps.{IsKept, MeetsWithout, MissesWithout};
+ghost use Rattle.star.specs.Gaps.{IsKept, MeetsAll, MeetsWithout, MissesSome, MissesWithout};
 
 use crate::links::{
     Link, kept_after, link_at, misses_with, name_at, put_in, put_link, put_neighbour, set_link,
@@ -172,6 +172,14 @@ impl Star {
         ensures met { result ≡ false → MeetsWithout self.now (entry self.now.list k).0 }
     {
         self.misses || link_at(&self.links, k).opens
+    }
+
+    /// Whether some need of the centre isn't met by the kept neighbours. It looks at no point: the star keeps the answer.
+    pub fn misses_some(&self) -> bool
+        ensures missed { IsTrue result ↔ MissesSome self.now.points self.now.centre self.now.list }
+        ensures met { result ≡ false → MeetsAll self.now.points self.now.centre self.now.list }
+    {
+        self.misses
     }
 
     // The position of a neighbour.

@@ -20,7 +20,8 @@ use Rattle.journal_defs.specs.Neighbours.{are_joined, put_in_turn, star_list, ma
 use Rattle.partition_defs.proofs.laws.Sets.{joins_without, without_joins, joins_with, with_joins, with_joins_own}
 use Rattle.journal_defs.proofs.laws.Edits.{sound_after}
 use Rattle.partition_defs.proofs.laws.Needs.{clear_joined}
-use Rattle.journal_defs.proofs.laws.Turned.{Decides-joined, In, Turns, one_turn, in_put, put_in, turns_put, in_below, below_in, turns_below, joined_apart, directions_differ}
+use Rattle.journal_defs.proofs.laws.Turned.{Decides-joined, In, Turns, one_turn, in_put, put_in, turns_put, in_below, below_in, turns_below, joined_apart}
+use Rattle.star.proofs.laws.Directions.{directions_differ}
 
 -- the list of v in (T, K)
 pub record IsListOf (S : List Point) (T K : List Pair) (v : ℕ) (l : List (ℕ × Bool)) : Type 0 where

@@ -11,7 +11,7 @@ use Rattle.journal_defs.specs.declared.edit.Edit.TheVariants.{Drop, Keep, Flip}
 use Rattle.journal_defs.specs.declared.edit.Why.{Why}
 use Rattle.journal_defs.specs.declared.edit.Why.TheVariants.{NotThere, NotKept, NotSpare, Border, Opens, AlreadyThere, NotApex, Bent}
 use Rattle.journal_defs.specs.Edits.{State, is_end, touches, IsSound, AreAlikeAt}
-use Rattle.journal_defs.specs.Needs.{MeetsWithout, MissesWithout}
+use Rattle.star.specs.Gaps.{MeetsWithout, MissesWithout}
 use Rattle.journal_defs.specs.Table.{StaysMet, IsOpened, ShowsApex, IsEitherApex, JoinsApexes, IsFresh, Fits, Refuses}
 use Rattle.journal_defs.specs.Neighbours.{are_joined, put_in_turn, turned_below, star_list, star_value, IsWhy}
 use Rattle.journal_defs.proofs.laws.Members.{is_end_lo, is_end_hi, true_or, or_true}

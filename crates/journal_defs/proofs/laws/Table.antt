@@ -8,22 +8,22 @@ use Rattle.plane.specs.Geometry.{point, IsInNeed}
 use Rattle.plane.proofs.laws.Area.{area_swap}
 use Rattle.std.proofs.lemmas.Bool.{false≢true, cases_lt}
 use Rattle.star.specs.Turn.{TurnsBefore, IsBeforeInTurn}
-use Rattle.star.proofs.laws.Turning.{not_both}
 use Rattle.partition_defs.specs.Partition.{HasEnds, Joins, MeetsNeedsAt}
 use Rattle.partition_defs.specs.Triangulation.{IsApex}
 use Rattle.star.specs.Stars.{Seen, IsStar, IsNeighbour, HasMark, IsNext, StandsAt, entry, around}
 use Rattle.star.specs.StarOf.{IsStarOf}
-use Rattle.journal_defs.proofs.laws.Apexes.{marked_neighbour}
 use Rattle.partition_defs.proofs.laws.Flips.{apex_is_one, apex_turns}
 use Rattle.partition_defs.proofs.laws.Joined.{join_back, contains_joins, joins_contains, one_other, among_joins}
-use Rattle.journal_defs.proofs.laws.Apexes.{apex_is_next, apex_left}
+use Rattle.star.proofs.laws.Marks.{one_mark, unmarked, marked_neighbour, one_next}
+use Rattle.star.proofs.laws.Needs.{not_missed_of_met_without}
+use Rattle.star.proofs.laws.Apexes.{apex_is_next, apex_left}
 use Rattle.journal_defs.specs.declared.edit.Edit.{Edit}
 use Rattle.journal_defs.specs.declared.edit.Edit.TheVariants.{Drop, Keep, Flip}
 use Rattle.journal_defs.specs.declared.edit.Why.{Why}
 use Rattle.journal_defs.specs.declared.edit.Why.TheVariants.{NotThere, NotKept, NotSpare, Border, Opens, AlreadyThere, NotApex, Bent}
 use Rattle.partition_defs.specs.Sets.{without}
 use Rattle.journal_defs.specs.Edits.{State, IsLegalDrop, IsSpare, IsLegal, is_end, touches, IsSound}
-use Rattle.journal_defs.specs.Needs.{MeetsWithout, MissesWithout}
+use Rattle.star.specs.Gaps.{MeetsWithout, MissesWithout}
 use Rattle.journal_defs.specs.Table.{Shows, ShowsKept, IsFirstOpened, ShowsApex, IsEitherApex, IsFirstNoApex, IsFirstBent, JoinsApexes, IsLowRight, IsHighLeft, FitsDrop, FitsKeep, FitsFlip, Fits, RefusesDrop, RefusesKeep, RefusesFlip, Refuses}
 use Rattle.journal_defs.specs.Agree.{AreAgreeing}
 use Rattle.partition_defs.proofs.laws.Sets.{joins_without, without_joins}
@@ -54,10 +54,6 @@ neighbour_within S s at v r so (k, stands) =
 -- the kept neighbours other than q meet all needs of the centre, told of the points P
 abbrev pub MeetsIn : List Point → Seen → ℕ → Type 0
 MeetsIn P s q = (u : ℕ) → u < length P → u ≢ s.centre → (r : ℕ) × (r ≢ q) × HasMark s r true × IsInNeed P s.centre u r
-
--- a need that is missed isn't met
-pub missed_met : (s : Seen) (q : ℕ) → MissesWithout s q → ¬ MeetsWithout s q
-missed_met s q (u, hu, ne, none) met = let (r, apart, mark, need) = met u hu ne in none r mark apart need
 
 -- the star's kept neighbours but w meet the needs of v exactly where the kept pairs without that to w do
 pub star_meets : (S : List Point) (s : State) (at : ℕ → Seen) (e : Pair) (v w : ℕ) → IsTrueAt S s at v → HasEnds e v w → MeetsWithout (at v) w → MeetsNeedsAt S (without e s.kept) v
@@ -111,9 +107,6 @@ pub apex_shows : (S : List Point) (s : State) (at : ℕ → Seen) (p q r : ℕ) 
 apex_shows S s at p q r sound so join apex =
     let (k, stands) = (so.neighbours q).1 join in
     ((k, stands, apex_is_next S s.all s.kept p q r k (at p) sound.triangulation so stands apex), apex.left)
-
-one_next : (S : List Point) (s : Seen) (q r t : ℕ) → ((i j : ℕ) → StandsAt s i q → StandsAt s j q → i ≡ j) → IsNext s q (Some r) → IsNext s q (Some t) → r ≡ t
-one_next S s q r t once (i, a, b) (j, c, d) = b ∙ ap (λ m. (entry s.list (around (length s.list) (m + 1))).0) (once i j a c) ∙ sym d
 
 -- there is one apex
 pub one_apex : (S : List Point) (s : State) (at : ℕ → Seen) (p q r t : ℕ) → IsSound S s → IsTrueAt S s at p → ShowsApex S (at p) p q r → ShowsApex S (at p) p q t → r ≡ t
@@ -172,52 +165,16 @@ legal_fits S s at (Flip e f) sound so legal =
     let new = so f.lo (or_true (is_end e f.lo) (is_end f f.lo) (is_end_lo f)) in
     flippable_fits S s at e f sound low high new legal.spare legal.fresh (legal_flippable S s e f sound legal)
 
-pub never_before : (c q : Point) → ¬ TurnsBefore c q q
-never_before c q (inl h) = not_both c q h.0 h.1
-never_before c q (inr h) = let e = area_swap c q q in omega (arith, ints, h.1)
-
--- a neighbour stands once
-pub stands_once : (s : Seen) (q i j : ℕ) → IsStar s → StandsAt s i q → StandsAt s j q → i ≡ j
-stands_once s q i j so a b = elim (cases_lt i j) [
-  | inl h ↦ absurd (twice i j h b.0 (a.1 ∙ sym b.1))
-  | inr h ↦ elim (cases_lt j i) [ inl g ↦ absurd (twice j i g a.0 (b.1 ∙ sym a.1)) | inr g ↦ omega arith ]
-]
-  where
-    twice : (i j : ℕ) → i < j → j < length s.list → (entry s.list i).0 ≡ (entry s.list j).0 → ⊥
-    twice i j ij h same =
-        never_before (point s.points s.centre) (point s.points (entry s.list j).0) (subst (λ x. IsBeforeInTurn s.points s.centre x (entry s.list j).0) same (so.order i j ij h))
-
--- and has one mark
-pub one_mark : (s : Seen) (q : ℕ) → IsStar s → HasMark s q false → HasMark s q true → ⊥
-one_mark s q so (i, hi, a) (j, hj, b) =
-    let at = stands_once s q i j so (hi, ap (λ (p : ℕ × Bool). p.0) a) (hj, ap (λ (p : ℕ × Bool). p.0) b) in
-    false≢true (sym (ap (λ (p : ℕ × Bool). p.1) a) ∙ ap (λ k. (entry s.list k).1) at ∙ ap (λ (p : ℕ × Bool). p.1) b)
-
-marked : (s : Seen) (q k : ℕ) (c : Bool) → k < length s.list → (entry s.list k).0 ≡ q → (entry s.list k).1 ≡ c → HasMark s q c
-marked s q k c h at e = (k, h, ap (λ (n : ℕ). let p : ℕ × Bool = (n, (entry s.list k).1) in p) at ∙ ap (λ (b : Bool). let p : ℕ × Bool = (q, b) in p) e)
-
--- a neighbour that isn't kept is marked so
-pub unmarked : (s : Seen) (q : ℕ) → IsNeighbour s q → ¬ HasMark s q true → HasMark s q false
-unmarked s q (k, (h, at)) apart = pick ((entry s.list k).1) refl
-  where
-    pick : (c : Bool) → (entry s.list k).1 ≡ c → HasMark s q false
-    pick true e = absurd (apart (marked s q k true h at e))
-    pick false e = marked s q k false h at e
-
--- stars of the touched vertices, true or not
-abbrev pub AreStarsFor : (ℕ → Seen) → Edit → Type 0
-AreStarsFor at e = (v : ℕ) → touches e v ≡ true → IsStar (at v)
-
 -- a star shows one apex
 pub one_shown : (S : List Point) (at : ℕ → Seen) (p q r t : ℕ) → IsStar (at p) → ShowsApex S (at p) p q r → ShowsApex S (at p) p q t → r ≡ t
-one_shown S at p q r t so a b = one_next S (at p) q r t (λ i j h k. stands_once (at p) q i j so h k) a.0 b.0
+one_shown S at p q r t so a b = one_next (at p) q r t so a.0 b.0
 
 -- a refusal and a fit exclude each other
 pub refused_drop : (S : List Point) (at : ℕ → Seen) (e : Pair) (why : Why) → RefusesDrop S (at e.lo) (at e.hi) e why → ¬ FitsDrop S (at e.lo) (at e.hi) e
 refused_drop S at e NotThere r fits = r fits.there
 refused_drop S at e NotKept r fits = r.1 fits.kept
 refused_drop S at e Border r fits = fits.inside r.2
-refused_drop S at e (Opens v) r fits = elim r.3 [ inl a ↦ missed_met (at e.lo) e.hi a.1.1 (fits.lower a.1.0) | inr a ↦ missed_met (at e.hi) e.lo a.2.1 (fits.upper a.2.0) ]
+refused_drop S at e (Opens v) r fits = elim r.3 [ inl a ↦ not_missed_of_met_without (at e.lo) e.hi (fits.lower a.1.0) a.1.1 | inr a ↦ not_missed_of_met_without (at e.hi) e.lo (fits.upper a.2.0) a.2.1 ]
 refused_drop S at e _ r fits = r
 
 pub refused_keep : (at : ℕ → Seen) (e : Pair) (why : Why) → RefusesKeep (at e.lo) e why → ¬ FitsKeep (at e.lo) e
@@ -281,8 +238,8 @@ one_refusal_drop S at e (Opens v) (Opens w) x y = ap (λ (u : ℕ). (let z : Why
   where
     same : IsFirstOpened S (at e.lo) (at e.hi) e v → IsFirstOpened S (at e.lo) (at e.hi) e w → v ≡ w
     same (inl h) (inl k) = h.0 ∙ sym k.0
-    same (inl h) (inr k) = absurd (missed_met (at e.lo) e.hi h.1.1 (k.1 h.1.0))
-    same (inr h) (inl k) = absurd (missed_met (at e.lo) e.hi k.1.1 (h.1 k.1.0))
+    same (inl h) (inr k) = absurd (not_missed_of_met_without (at e.lo) e.hi (k.1 h.1.0) h.1.1)
+    same (inr h) (inl k) = absurd (not_missed_of_met_without (at e.lo) e.hi (h.1 k.1.0) k.1.1)
     same (inr h) (inr k) = h.0 ∙ sym k.0
 one_refusal_drop S at e (Opens v) _ x y = absurd y
 one_refusal_drop S at e _ b x y = absurd x

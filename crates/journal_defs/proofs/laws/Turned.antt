@@ -21,13 +21,13 @@ use Rattle.partition_defs.specs.Triangulation.{IsTriangulation}
 use Rattle.star.specs.Turn.{IsUpper, IsLower, AreInOneHalf, TurnsBefore, PointTogether, IsBeforeInTurn}
 use Rattle.star.specs.Stars.{Seen, IsNeighbour, HasMark, entry, AreInTurn}
 use Rattle.star.specs.StarOf.{IsStarOf}
-use Rattle.star.proofs.laws.Turning.{Up, up, down, not_both, upper_or_lower, before_on, before_or}
+use Rattle.star.proofs.laws.Turning.{not_both, upper_or_lower, before_on, before_or, never_before_itself}
 use Rattle.partition_defs.proofs.laws.Has.{contains_of}
 use Rattle.partition_defs.proofs.laws.Joined.{joined, among_joins}
-use Rattle.journal_defs.proofs.laws.Apexes.{marked_neighbour}
 use Rattle.journal_defs.specs.Edits.{State, IsSound}
 use Rattle.journal_defs.specs.Neighbours.{is_positive, is_upper, turns_before, are_joined, put_in_turn, turned_below, star_list, star_value}
-use Rattle.journal_defs.proofs.laws.Table.{unmarked, one_mark, never_before}
+use Rattle.star.proofs.laws.Directions.{directions_differ}
+use Rattle.star.proofs.laws.StarOf.{one_star}
 use Rattle.partition_defs.proofs.laws.Needs.{clear_joined}
 
 Decides-positive : (z : ℤ) → Decides (is_positive z) (pos 0 <ℤ z)
@@ -89,51 +89,6 @@ Decides-joined T i j = (
       list_any_at (λ (e : Pair). (nat_eq e.lo i && nat_eq e.hi j) || (nat_eq e.lo j && nat_eq e.hi i)) T k e hk ((Decides-ends (get_or T k e) i j).1 (subst (λ (z : Pair). HasEnds z i j) (sym at) ends))),
 )
 
--- a point doesn't lie between two points in one half of the directions from it
-not_opposed_up : (ux uy rx ry : ℤ) → Up ux uy → Up rx ry → ux *ℤ ry -ℤ uy *ℤ rx ≡ pos 0 → ¬ ((ux *ℤ rx +ℤ uy *ℤ ry) <ℤ pos 0)
-not_opposed_up ux uy rx ry hu hr line away = elim (opposite_steps ux uy rx ry line away) [
-  | inl o ↦ across o hu hr
-  | inr (a, b, o) ↦ upward hu hr o
-]
-  where
-    upward : Up ux uy → Up rx ry → AreOpposite uy ry → ⊥
-    upward (inl a) (inl b) (inl o) = omega (arith, ints, o.0)
-    upward (inl a) (inl b) (inr o) = omega (arith, ints, o.1)
-    upward (inl a) (inr b) (inl o) = omega (arith, ints, o.0)
-    upward (inl a) (inr b) (inr o) = omega (arith, ints, o.1, b.0)
-    upward (inr a) b (inl o) = omega (arith, ints, o.0, a.0)
-    upward (inr a) b (inr o) = omega (arith, ints, o.0, a.0)
-
-    across : AreOpposite ux rx → Up ux uy → Up rx ry → ⊥
-    across (inl o) (inr a) b = omega (arith, ints, o.0, a.1)
-    across (inl o) (inl a) (inl b) = let p = negative_positive ux ry o.0 b in let q = positive_positive uy rx a o.1 in omega (arith, ints)
-    across (inl o) (inl a) (inr b) = let p = zero_right ux ry b.0 in let q = positive_positive uy rx a o.1 in omega (arith, ints)
-    across (inr o) a (inr b) = omega (arith, ints, o.1, b.1)
-    across (inr o) (inl a) (inl b) = let p = positive_positive ux ry o.0 b in let q = positive_negative uy rx a o.1 in omega (arith, ints)
-    across (inr o) (inr a) (inl b) = let p = positive_positive ux ry o.0 b in let q = zero_left uy rx a.0 in omega (arith, ints)
-
-neg_product : (a b : ℤ) → neg_ℤ a *ℤ neg_ℤ b ≡ a *ℤ b
-neg_product a b = let e = neg_mul a (neg_ℤ b) in let f = mul_neg a b in omega (arith, ints)
-
-not_opposed : (c q r : Point) → AreInOneHalf c q r → ¬ LiesBetween c q r
-unfolding area scalar
-not_opposed c q r (inl h) (line, away) =
-    not_opposed_up (q.x -ℤ c.x) (q.y -ℤ c.y) (r.x -ℤ c.x) (r.y -ℤ c.y) (up c q h.0) (up c r h.1) (let e = area_back c q r in omega (arith, ints, e, line)) away
-not_opposed c q r (inr h) (line, away) =
-    let a = neg_product (q.x -ℤ c.x) (r.y -ℤ c.y) in let b = neg_product (q.y -ℤ c.y) (r.x -ℤ c.x) in
-    let x = neg_product (q.x -ℤ c.x) (r.x -ℤ c.x) in let y = neg_product (q.y -ℤ c.y) (r.y -ℤ c.y) in
-    not_opposed_up (neg_ℤ (q.x -ℤ c.x)) (neg_ℤ (q.y -ℤ c.y)) (neg_ℤ (r.x -ℤ c.x)) (neg_ℤ (r.y -ℤ c.y)) (down c q h.0) (down c r h.1)
-    (let e = area_back c q r in omega (arith, ints, e, line)) (omega (arith, ints, away))
-
--- two clear segments at v have different directions
-pub directions_differ : (S : List Point) (v x y : ℕ) → AreAccepted S → v < length S → x < length S → y < length S → x ≢ v → y ≢ v → x ≢ y → IsClear S v x → IsClear S v y → ¬ PointTogether (point S v) (point S x) (point S y)
-directions_differ S v x y accepted hv hx hy vx vy xy cx cy (half, line) =
-    elim (one_between (point S v) (point S x) (point S y)
-    (points_differ S v x accepted.apart hv hx (λ e. vx (sym e))) (points_differ S v y accepted.apart hv hy (λ e. vy (sym e))) (points_differ S x y accepted.apart hx hy xy) line) [
-      | inl h ↦ not_opposed (point S v) (point S x) (point S y) half h
-      | inr rest ↦ elim rest [ inl h ↦ cy x hx h | inr h ↦ cx y hy h ]
-    ]
-
 -- membership in a list of neighbours, by recursion
 abbrev pub In : ℕ × Bool → List (ℕ × Bool) → Type 0
 In z [] = ⊥
@@ -181,11 +136,11 @@ one_turn S v (x ∷ xs) (y ∷ ys) r s a b =
     first : (y ≡ x) ⊎ In x ys → (x ≡ y) ⊎ In y xs → x ≡ y
     first (inl h) k = sym h
     first (inr h) (inl k) = k
-    first (inr h) (inr k) = absurd (never_before (point S v) (point S x.0) (before_on (point S v) (point S x.0) (point S y.0) (point S x.0) (r.0 y k) (s.0 x h)))
+    first (inr h) (inr k) = absurd (never_before_itself (point S v) (point S x.0) (before_on (point S v) (point S x.0) (point S y.0) (point S x.0) (r.0 y k) (s.0 x h)))
 
     later : (x y : ℕ × Bool) (xs ys : List (ℕ × Bool)) → Turns S v (x ∷ xs) → x ≡ y → (z : ℕ × Bool) → In z xs → (y ≡ z) ⊎ In z ys → In z ys
     later x y xs ys r same z h (inl k) =
-        absurd (never_before (point S v) (point S x.0) (subst (λ (w : ℕ × Bool). IsBeforeInTurn S v x.0 w.0) (sym (same ∙ k)) (r.0 z h)))
+        absurd (never_before_itself (point S v) (point S x.0) (subst (λ (w : ℕ × Bool). IsBeforeInTurn S v x.0 w.0) (sym (same ∙ k)) (r.0 z h)))
     later x y xs ys r same z h (inr k) = k
 
 pub in_put : (S : List Point) (v : ℕ) (x z : ℕ × Bool) (ys : List (ℕ × Bool)) → In z (put_in_turn S v x ys) → (x ≡ z) ⊎ In z ys
@@ -334,27 +289,6 @@ value_is_star S s v accepted sound hv = record {
     point_joined w j = let (e, m, ends) = joined s.all v w j in
         let high = sound.triangulation.within e (contains_of s.all e m) in let o = e.ordered in
         elim ends [ inl a ↦ omega (arith, a.1) | inr a ↦ omega (arith, a.0) ]
-
--- two stars of one vertex in one state have one list
-pub one_star : (S : List Point) (T K : List Pair) (v : ℕ) (a b : Seen) → IsStarOf S T K v a → IsStarOf S T K v b → a.list ≡ b.list
-one_star S T K v a b so to =
-    one_turn S v a.list b.list (turned a so) (turned b to) (λ z h. carried a b so to z h) (λ z h. carried b a to so z h)
-  where
-    turned : (a : Seen) → IsStarOf S T K v a → Turns S v a.list
-    turned a so = turn_in S v a.list (let P : List Point → Type 0 = λ U. AreInTurn U a.centre a.list in let Q : ℕ → Type 0 = λ c. AreInTurn S c a.list in subst Q so.centre (subst P so.points so.star.order))
-
-    marked : (a b : Seen) → IsStarOf S T K v a → IsStarOf S T K v b → (w : ℕ) (m : Bool) → HasMark a w m → HasMark b w m
-    marked a b so to w true h = (to.marks w ((to.neighbours w).1 ((so.neighbours w).0 (marked_neighbour a w true h)))).1 ((so.marks w (marked_neighbour a w true h)).0 h)
-    marked a b so to w false h =
-        let near = marked_neighbour a w false h in
-        let there : IsNeighbour b w = (to.neighbours w).1 ((so.neighbours w).0 near) in
-        unmarked b w there (λ k. one_mark a w so.star h ((so.marks w near).1 ((to.marks w there).0 k)))
-
-    carried : (a b : Seen) → IsStarOf S T K v a → IsStarOf S T K v b → (z : ℕ × Bool) → In z a.list → In z b.list
-    carried a b so to z h =
-        let (k, hk, at) = at_in a.list z h in
-        let (l, hl, same) = marked a b so to z.0 z.1 (k, hk, at) in
-        subst (λ (w : ℕ × Bool). In w b.list) same (in_at b.list l hl)
 
 -- so every star of v in a sound state has the value's list
 pub star_is_value : (S : List Point) (s : State) (v : ℕ) (a : Seen) → AreAccepted S → IsSound S s → v < length S → IsStarOf S s.all s.kept v a → a.list ≡ star_list S s v

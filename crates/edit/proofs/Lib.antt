@@ -1,0 +1,5 @@
+pub mod Unclaimed
+pub mod Rising
+pub mod Shown
+pub mod Rows
+pub mod Following

@@ -1,0 +1,22 @@
+//! Which edits of a triangulation with kept pairs fit, decided from the stars of at most four vertices; plans of edits with
+//! the claims on the vertices that they touch; and the step of a star through an edit. The journal's machine, the board and
+//! the planner go by these calls.
+#![tactic(auto)]
+
+mod covering;
+mod drop_row;
+mod fits;
+mod flip_row;
+mod follow;
+mod look;
+mod marks;
+mod plan;
+
+pub use fits::fits;
+pub use follow::follow;
+pub use journal_defs::{Claim, Edit, EditList, Why};
+pub use look::Look;
+pub use plan::{BadPlan, Plan};
+
+#[cfg(test)]
+mod tests;

@@ -1,9 +1,9 @@
 -- What the tables and the board cite: laws of lists of indices, of beginnings of lists, of entries, of owners, and of what
 -- holds at each place of a list.
-use Rattle.std.proofs.Common.{◌≡◌, ◌≢◌, ◌⊎◌, ⊎_elim, inl, inr, arith, ℕ, zero, suc, ◌+◌, ◌<◌, ◌≤◌, ◌++◌, length, Bool, true, false, true≢false, List, [], ◌∷◌, set, sym, refl, ap, ◌∙◌, subst, eq-eqb, ne_eqb}
+use Rattle.std.proofs.Common.{◌≡◌, ◌≢◌, ◌⊎◌, ⊎_elim, inl, inr, arith, ℕ, zero, suc, ◌+◌, ◌<◌, ◌≤◌, ◌++◌, length, length-append, map, Bool, true, false, true≢false, List, [], ◌∷◌, set, sym, refl, ap, ◌∙◌, subst, eq-eqb, ne_eqb}
 use Rattle.std.specs.Prelude.{if◌then◌else◌, ◌||◌, nat_eq, nat_lt, cond, filter}
 use Rattle.std.specs.List.{AllByRecursion}
-use Rattle.std.proofs.lemmas.List.{append-nil, append_assoc}
+use Rattle.std.proofs.lemmas.List.{append-nil, append_assoc, map-append}
 use Rattle.std.proofs.lemmas.List.Elements.{filter-append}
 use Rattle.std.proofs.lemmas.Bool.Decides.{nat_tests}
 use mathlib.Core.Logic.{dite}
@@ -14,7 +14,7 @@ use lib.ListN.{get_elem?}
 use Rattle.index_sets.specs.Indices.{contains, all_but, HasNoRepeat, numbers_from}
 use Rattle.index_sets.specs.Prefixes.{longer}
 use Rattle.index_sets.specs.Entries.{entries_of, LacksCaller}
-use Rattle.index_sets.specs.Owners.{handed, merged}
+use Rattle.index_sets.specs.Owners.{handed, merged, IsCut}
 
 -- Tests.
 pub is_false : (b : Bool) → (b ≡ true → ⊥) → b ≡ false
@@ -128,26 +128,80 @@ pub numbers_from-all : (n count p : ℕ) → n ≤ p → p < n + count → conta
 numbers_from-all n zero p l u = absurd (omega arith)
 numbers_from-all n (suc m) p l u = dite (ℕ_discrete n p) (λ e. ap (λ b. b || contains (numbers_from (suc n) m) p) (eq-eqb n p e)) (λ ne. or-right (nat_eq n p) (contains (numbers_from (suc n) m) p) (numbers_from-all (suc n) m p (omega arith) (omega arith)))
 
+pub numbers_from-snoc : (n count : ℕ) → numbers_from n (suc count) ≡ numbers_from n count ++ (n + count) ∷ []
+numbers_from-snoc n zero = ap (λ x. x ∷ []) (let z : n ≡ n + 0 = omega arith in z)
+numbers_from-snoc n (suc m) = ap (λ l. n ∷ l) (numbers_from-snoc (suc n) m ∙ ap (λ x. numbers_from (suc n) m ++ x ∷ []) (let z : suc n + m ≡ n + suc m = omega arith in z))
+
+-- one more of what there is for each number from 1
+pub map-numbers_from-next : {A : Type 0} (f : ℕ → A) (xs : List A) (x : A) (count : ℕ) → xs ≡ map f (numbers_from 1 count) → x ≡ f (1 + count) → xs ++ x ∷ [] ≡ map f (numbers_from 1 (count + 1))
+map-numbers_from-next f xs x count is next =
+    let e : suc count ≡ count + 1 = omega arith in
+    (λ i. is i ++ next i ∷ []) ∙ (sym (map-append f (numbers_from 1 count) ((1 + count) ∷ [])) ∙ (ap (map f) (sym (numbers_from-snoc 1 count)) ∙ ap (λ z. map f (numbers_from 1 z)) e))
+
+-- two lists with one more each are the same only if their parts are
+pub snoc-same : {A : Type 0} (xs ys : List A) (x y : A) → xs ++ x ∷ [] ≡ ys ++ y ∷ [] → (xs ≡ ys) × (x ≡ y)
+snoc-same [] [] x y e = (refl, cc)
+snoc-same [] (b ∷ ys) x y e = absurd (let n = length-append ys (y ∷ []) in let m = ap (λ l. length l) e in omega arith)
+snoc-same (a ∷ xs) [] x y e = absurd (let n = length-append xs (x ∷ []) in let m = ap (λ l. length l) e in omega arith)
+snoc-same (a ∷ xs) (b ∷ ys) x y e =
+    let head : a ≡ b = cc in
+    let tail : xs ++ x ∷ [] ≡ ys ++ y ∷ [] = cc in
+    let r = snoc-same xs ys x y tail in
+    (λ i. head i ∷ r.0 i, r.1)
+
+-- the last of what there is for each number from 1
+pub map-numbers_from-last : {A : Type 0} (f : ℕ → A) (xs : List A) (x : A) (count : ℕ) → xs ++ x ∷ [] ≡ map f (numbers_from 1 (count + 1)) → (xs ≡ map f (numbers_from 1 count)) × (x ≡ f (1 + count))
+map-numbers_from-last f xs x count is = snoc-same xs (map f (numbers_from 1 count)) x (f (1 + count)) (is ∙ sym (map-numbers_from-next f (map f (numbers_from 1 count)) (f (1 + count)) count refl refl))
+
 pub length-numbers_from : (n count : ℕ) → length (numbers_from n count) ≡ count
 length-numbers_from n zero = refl
 length-numbers_from n (suc m) = ap suc (length-numbers_from (suc n) m)
+
+-- a list that contains nothing
+pub contains-nothing : (xs : List ℕ) → ((i : ℕ) → contains xs i ≡ true → ⊥) → xs ≡ []
+contains-nothing [] h = refl
+contains-nothing (x ∷ xs) h = absurd (h x (contains-first xs x))
+
+-- what holds of each index that is among them
+pub AllByRecursion-contains : (P : ℕ → Type 0) (xs : List ℕ) → ((i : ℕ) → contains xs i ≡ true → P i) → AllByRecursion P xs
+AllByRecursion-contains P [] h = tt
+AllByRecursion-contains P (x ∷ xs) h = (h x (contains-first xs x), AllByRecursion-contains P xs (λ i t. h i (contains-later x xs i t)))
 
 pub HasNoRepeat-numbers_from : (n count : ℕ) → HasNoRepeat (numbers_from n count)
 HasNoRepeat-numbers_from n zero = tt
 HasNoRepeat-numbers_from n (suc m) = (is_false (contains (numbers_from (suc n) m) n) (λ t. let z = numbers_from-least (suc n) m n t in absurd (omega arith)), HasNoRepeat-numbers_from (suc n) m)
 
 -- Owners.
-pub handed-here : (owner : ℕ → ℕ) (index new : ℕ) → handed owner index new index ≡ new
-handed-here owner index new = ap (λ b. if b then new else owner index) (eq-eqb index index refl)
+pub handed-here : (owner : ℕ → ℕ) (indices : List ℕ) (new i : ℕ) → contains indices i ≡ true → handed owner indices new i ≡ new
+handed-here owner indices new i h = ap (λ b. if b then new else owner i) h
 
-pub handed-else : (owner : ℕ → ℕ) (index new i : ℕ) → i ≢ index → handed owner index new i ≡ owner i
-handed-else owner index new i n = ap (λ b. if b then new else owner i) (ne_eqb i index n)
+pub handed-else : (owner : ℕ → ℕ) (indices : List ℕ) (new i : ℕ) → contains indices i ≡ false → handed owner indices new i ≡ owner i
+handed-else owner indices new i h = ap (λ b. if b then new else owner i) h
+
+-- what one owner had, and didn't go, is still another's than what somebody else had
+pub handed-others : (owner : ℕ → ℕ) (indices : List ℕ) (new id j i : ℕ) → ((k : ℕ) → contains indices k ≡ true → owner k ≡ id) → j ≢ id → owner i ≡ j → handed owner indices new i ≡ j
+handed-others owner indices new id j i theirs other own = handed-else owner indices new i (is_false (contains indices i) (λ t. other (sym own ∙ theirs i t))) ∙ own
 
 pub merged-old : (owner : ℕ → ℕ) (old new i : ℕ) → owner i ≡ old → merged owner old new i ≡ new
 merged-old owner old new i e = ap (λ b. if b then new else owner i) (eq-eqb (owner i) old e)
 
 pub merged-else : (owner : ℕ → ℕ) (old new i : ℕ) → owner i ≢ old → merged owner old new i ≡ owner i
 merged-else owner old new i n = ap (λ b. if b then new else owner i) (ne_eqb (owner i) old n)
+
+pub IsCut-one : (xs : List ℕ) (i : ℕ) → contains xs i ≡ true → IsCut xs (all_but xs i) (i ∷ [])
+IsCut-one xs i h = record {
+  left = λ j l. let o = all_but-is_other xs i j l in (o.0, is_false (contains (i ∷ []) j) (λ t. o.1 (contains-one i j t)));
+  right = λ j r. ap (contains xs) (contains-one i j r) ∙ h;
+}
+
+pub IsCut-none : (xs : List ℕ) → IsCut xs xs []
+IsCut-none xs = record { left = λ j l. (l, refl); right = λ j r. absurd (true≢false (sym r)) }
+
+pub IsCut-first : (x : ℕ) (xs : List ℕ) → contains xs x ≡ false → IsCut (x ∷ xs) xs (x ∷ [])
+IsCut-first x xs h = record {
+  left = λ j l. (contains-later x xs j l, is_false (contains (x ∷ []) j) (λ t. true≢false (sym l ∙ (ap (contains xs) (contains-one x j t) ∙ h))));
+  right = λ j r. ap (contains (x ∷ xs)) (contains-one x j r) ∙ contains-first xs x;
+}
 
 -- Beginnings of lists.
 module _ {T : Type 0} where

@@ -1,7 +1,7 @@
 ghost use Rattle.std.specs.Prelude.{◌≡◌, ℕ, Bool};
 
-/// An entry of a history that several callers write to. A caller is a number; 0 is nobody's. A place is an index, and who
-/// touches one has to own it. (This project's own.)
+/// An entry of a history that several callers write to. A caller is a number; 0 is nobody's. A place is an index, and
+/// who touches one has to own it. (This project's own.)
 pub trait Entry {
     /// Whose entry it is.
     ghost caller: { Self → ℕ };

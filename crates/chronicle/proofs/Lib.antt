@@ -1,0 +1,4 @@
+mod Moves
+mod Told
+mod Dealt
+pub mod Laws

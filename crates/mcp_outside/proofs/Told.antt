@@ -1,11 +1,12 @@
 -- Bytes that a source has left and that a sink holds, over several calls.
-use Rattle.std.proofs.Common.{◌≡◌, ℕ, ◌+◌, ◌-◌, ◌≤◌, List, ◌++◌, length, take, drop, refl, sym, ◌∙◌, ap, subst, arith, length-append, length-drop}
+use Rattle.std.proofs.Common.{◌≡◌, ℕ, ◌+◌, ◌-◌, ◌≤◌, List, ◌++◌, length, take, drop, refl, sym, ◌∙◌, ap, subst, arith, length-append, length-drop, Some, None, Result, Ok, Err, IfSome, IfErr, IsErrOf}
 use Rattle.std.proofs.lemmas.List.{take_all}
-use Rattle.std.proofs.Math.Seq.{take-add}
+use Rattle.std.proofs.Math.Seq.{take-add, drop-append_seam}
 use Rattle.std.specs.declared.option.Option.{Option}
 use Rattle.std.specs.Io.KnownBytes.{Consumes, Appends}
 use Rattle.std.proofs.KnownBytes.{Appends-trans, Consumes-trans}
-use Rattle.mcp_outside.specs.Bytes.{TakesCount, EndsAfter}
+use Rattle.mcp_outside.specs.Bytes.{Took}
+use Rattle.mcp_outside.specs.Readings.{TakesCount, EndsAfter}
 use Rattle.mcp_outside.specs.declared.ends.ReadEnd.{ReadEnd}
 use Rattle.mcp_outside.specs.declared.ends.ReadEnd.TheVariants.{Failed, TooLong, NoMemory}
 
@@ -14,12 +15,27 @@ takes_later : (a b c : Option (List ℕ)) (bs : List ℕ) (m n : ℕ) → Consum
 takes_later a b c bs m n p sum more =
     (bs ++ more.0, omega (arith, length-append bs more.0, more.1, sum), Consumes-trans a b c bs more.0 p more.2)
 
--- an end after some bytes were taken before
-pub ends_later : (a b c : Option (List ℕ)) (bs : List ℕ) (spare limit : ℕ) (e : ReadEnd) → Consumes a b bs → length bs + spare ≡ limit → EndsAfter spare b c e → EndsAfter limit a c e
-ends_later a b c bs spare limit Failed p sum ends = tt
-ends_later a b c bs spare limit TooLong p sum ends = takes_later a b c bs (spare + 1) (limit + 1) p (omega arith) ends
-ends_later a b c bs spare limit NoMemory p sum ends =
-    (length bs + ends.0, omega (arith, ends.1, sum), takes_later a b c bs ends.0 (length bs + ends.0) p refl ends.2)
+-- an end after some bytes were taken before, each call a byte
+pub ends_later : (a b c : Option (List ℕ)) (bs : List ℕ) (spare limit before middle after : ℕ) (e : ReadEnd) → Consumes a b bs → length bs + spare ≡ limit → middle ≤ before + length bs → EndsAfter spare (middle, after) b c e → EndsAfter limit (before, after) a c e
+ends_later a b c bs spare limit before middle after Failed p sum few ends = tt
+ends_later a b c bs spare limit before middle after TooLong p sum few ends = takes_later a b c bs (spare + 1) (limit + 1) p (omega arith) ends
+ends_later a b c bs spare limit before middle after NoMemory p sum few ends =
+    (length bs + ends.0, omega (arith, ends.1, sum), omega (arith, ends.2, few), takes_later a b c bs ends.0 (length bs + ends.0) p refl ends.3)
+
+-- bytes that were taken from the front are the first ones
+took_first : (xs : List ℕ) (new : Option (List ℕ)) (n : ℕ) → TakesCount (Some xs) new n → Took n xs new
+took_first xs None n h = absurd h.2
+took_first xs (Some ys) n (bytes, len, split) =
+    let drop_is : drop n xs ≡ ys = ap (λ k. drop k xs) (sym len) ∙ ap (drop (length bytes)) split ∙ drop-append_seam bytes ys in
+    (omega (arith, ap length split, length-append bytes ys, len), ap Some (sym drop_is))
+
+-- what was taken where no memory was found, each call but the last a byte
+pub took_before : {T : Type 0} (r : Result T ReadEnd) (limit before after : ℕ) (old new : Option (List ℕ)) → IfErr r (EndsAfter limit (before, after) old new) → IfSome old (λ xs. IsErrOf r NoMemory → (n : ℕ) × (n ≤ limit) × Took n xs new × (after ≤ before + n + 1))
+took_before r limit before after None new h = tt
+took_before (Ok x) limit before after (Some xs) new h = λ e. absurd (cc)
+took_before (Err Failed) limit before after (Some xs) new h = λ e. absurd (cc)
+took_before (Err TooLong) limit before after (Some xs) new h = λ e. absurd (cc)
+took_before (Err NoMemory) limit before after (Some xs) new (n, le, few, took) = λ e. (n, le, took_first xs new n took, few)
 
 -- the rest of some bytes, as a slice of them
 rest_is : (bytes : List ℕ) (w : ℕ) → take (length bytes - w) (drop w bytes) ≡ drop w bytes

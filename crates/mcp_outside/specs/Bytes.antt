@@ -1,8 +1,6 @@
 -- What calls do to the bytes that a source has left and that a sink holds, where those are told.
-use Rattle.std.specs.Prelude.{◌≡◌, ℕ, ◌+◌, ◌<◌, ◌≤◌, List, length, take, drop, Some, Result, IfOk}
+use Rattle.std.specs.Prelude.{◌≡◌, ℕ, ◌<◌, ◌≤◌, List, length, take, drop, Some, Result, IfOk}
 use Rattle.std.specs.declared.option.Option.{Option}
-use Rattle.mcp_outside.specs.declared.ends.ReadEnd.{ReadEnd}
-use Rattle.mcp_outside.specs.declared.ends.ReadEnd.TheVariants.{Failed, TooLong, NoMemory}
 use Rattle.std.specs.Io.KnownBytes.{Consumes, Appends, IsAtEnd}
 
 -- at Ok(k) the first k bytes left moved to the front of the room; none into a room that isn't empty only at the end
@@ -16,13 +14,3 @@ Took n bytes left = (n ≤ length bytes) × (left ≡ Some (drop n bytes))
 -- the bytes held grew by a prefix of these
 abbrev pub AppendsPrefix : Option (List ℕ) → Option (List ℕ) → List ℕ → Type 0
 AppendsPrefix old new bytes = (n : ℕ) × (n ≤ length bytes) × Appends old new (take n bytes)
-
--- n bytes were taken from the front
-abbrev pub TakesCount : Option (List ℕ) → Option (List ℕ) → ℕ → Type 0
-TakesCount old new n = (bytes : List ℕ) × (length bytes ≡ n) × Consumes old new bytes
-
--- how many bytes were taken before a reading ended without its bytes: one more than the limit, at most the limit, or nothing is said
-abbrev pub EndsAfter : ℕ → Option (List ℕ) → Option (List ℕ) → ReadEnd → Type 0
-EndsAfter limit old new Failed = Unit {0}
-EndsAfter limit old new TooLong = TakesCount old new (limit + 1)
-EndsAfter limit old new NoMemory = (n : ℕ) × (n ≤ limit) × TakesCount old new n

@@ -1,5 +1,5 @@
 // Where bytes come from and go to.
-ghost use Rattle.std.specs.Prelude.{ℕ, ◌<◌, List, length, IfOk};
+ghost use Rattle.std.specs.Prelude.{◌≡◌, ℕ, ◌<◌, List, length, IfOk, OnOk};
 ghost use Rattle.std.specs.declared.option.Option.{Option};
 ghost use Rattle.std.specs.Io.{ReadsAtMost, WritesAtMost};
 ghost use Rattle.std.specs.Io.KnownBytes.{WriteAppends};
@@ -53,11 +53,12 @@ pub trait Source {
 
     /// Moves the first bytes left into the front of the room, and answers how many. 0 into a room that isn't
     /// empty is the end of input. `Failed` comes only where the count of faults rose; nothing is said then of
-    /// the bytes left and of the room.
+    /// the bytes left and of the room. Where the call answers Ok, no fault came: the count is as it was.
     fn take(&mut self, room: &mut [u8]) -> Result<usize, Failed>
         ensures bound { ReadsAtMost result room.new }
         ensures bytes { Takes (left self.old) (left self.new) result room.new }
-        ensures cause { HasCause (faults self.old) (faults self.new) result };
+        ensures cause { HasCause (faults self.old) (faults self.new) result }
+        ensures kept { OnOk result (faults self.new ≡ faults self.old) };
 }
 
 /// Where bytes go to. It may tell the bytes that it holds, and it counts its faults.
@@ -69,10 +70,12 @@ pub trait Sink {
     ghost faults: { Self → ℕ };
 
     /// Writes the first bytes of the piece, and answers how many: at least one, where the piece isn't empty.
-    /// `Failed` comes only where the count of faults rose, and nothing of the piece was written then.
+    /// `Failed` comes only where the count of faults rose, and nothing of the piece was written then. Where the
+    /// call answers Ok, no fault came: the count is as it was.
     fn give(&mut self, piece: &[u8]) -> Result<usize, Failed>
         ensures bound { WritesAtMost result piece.now }
         ensures some { IfOk result (λ count. 0 < length piece.now → 0 < count) }
         ensures bytes { WriteAppends (contents self.old) (contents self.new) result piece.now }
-        ensures cause { HasCause (faults self.old) (faults self.new) result };
+        ensures cause { HasCause (faults self.old) (faults self.new) result }
+        ensures kept { OnOk result (faults self.new ≡ faults self.old) };
 }

@@ -1,5 +1,5 @@
 // A source and a sink in memory, which give and take in steps and fail at the calls that are listed.
-ghost use Rattle.std.specs.Prelude.{◌≡◌, ◌↔◌, ◌≤◌, ◌<◌, ◌++◌, ◌-◌, [], List, ℕ, min, length, take, drop, Some, Contains, IsErr, IfOk, OnErr};
+ghost use Rattle.std.specs.Prelude.{◌≡◌, ◌↔◌, ◌≤◌, ◌<◌, ◌++◌, ◌-◌, [], List, ℕ, min, length, take, drop, Some, Contains, IsErr, IfOk, OnOk, OnErr};
 ghost use Rattle.std.specs.Io.{ReadsAtMost, WritesAtMost};
 ghost use Rattle.std.specs.Io.KnownBytes.{WriteAppends};
 ghost use Rattle.mcp_outside.specs.Causes.{HasCause, next_count};
@@ -71,6 +71,7 @@ impl Source for MemorySource {
         ensures bound { ReadsAtMost result room.new }
         ensures bytes { Takes (Some self.old.left) (Some self.new.left) result room.new }
         ensures cause { HasCause self.old.faults self.new.faults result }
+        ensures kept { OnOk result (self.new.faults ≡ self.old.faults) }
         ensures failed { IsErr result ↔ Contains self.old.failing (next_count self.old.calls) }
         ensures count { IfOk result (λ k. k ≡ min self.old.step (min (length room.new) (length self.old.left))) }
         ensures moved { IfOk result (λ k. self.new ≡ record self.old { left = drop k self.old.left; calls = next_count self.old.calls }) }
@@ -156,6 +157,7 @@ impl Sink for MemorySink {
         ensures some { IfOk result (λ k. 0 < length piece.now → 0 < k) }
         ensures bytes { WriteAppends (Some self.old.written) (Some self.new.written) result piece.now }
         ensures cause { HasCause self.old.faults self.new.faults result }
+        ensures kept { OnOk result (self.new.faults ≡ self.old.faults) }
         ensures failed { IsErr result ↔ MustFail self.old piece.now }
         ensures count { IfOk result (λ k. k ≡ min self.old.step (min (length piece.now) self.old.room)) }
         ensures appended { IfOk result (λ k. self.new ≡ record self.old { written = self.old.written ++ take k piece.now; room = self.old.room - k; calls = next_count self.old.calls }) }

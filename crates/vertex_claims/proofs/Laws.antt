@@ -1,0 +1,12 @@
+-- A holder may cross threads where its cells may.
+use denote.RattleType.{RattleType}
+use denote.Param.Send.{IsSend, sendable, view_send}
+use Rattle.atomic_table.proofs.shared.Seat.TheSendSync.{the_send as seat_send}
+use Rattle.vertex_claims.specs.declared.holding.Held.{Ghosts}
+use Rattle.vertex_claims.specs.contracts.holding.Holder.{the_row}
+use Rattle.vertex_claims.specs.contracts.holding.Holder.TheInside as Inside
+
+pub holder_send : (C R : RattleType) (g : Ghosts C.Denot R.Denot) → IsSend C → IsSend (the_row C R g)
+holder_send C R g s =
+    let inside : IsSend (Inside.the_row C R g) = search (sendable, seat_send) depth 30 in
+    view_send _ _ _ _ _ inside

@@ -1,0 +1,4 @@
+mod Moves
+mod Rests
+mod Lists
+pub mod Laws

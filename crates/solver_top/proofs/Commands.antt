@@ -1,16 +1,94 @@
--- The answer of a command that is known.
-use Rattle.std.proofs.Common.{◌≡◌, ℕ, List, Option}
+-- The command of a line is one, and what it answers with its input read or left alone.
+use Rattle.std.proofs.Common.{◌≡◌, ℕ, ◌+◌, ◌≤◌, List, [], ◌∷◌, length, codes, Option, Some, Bool, true, false, cond, bytes_eq, sym, ◌∙◌, ap, subst, arith, refl, inl, inr}
+use Rattle.std.specs.Fmt.{decimal}
+use Rattle.std.proofs.lemmas.Fmt.{decimal_injective}
+use Rattle.generator.specs.declared.kinds.Kind.{Kind}
+use Rattle.generator.specs.declared.kinds.Kind.TheVariants.{Scatter, Grid, Ring}
+use Rattle.generator.specs.Names.{kind_word}
 use Rattle.solver_top.specs.declared.words.Command.{Command}
 use Rattle.solver_top.specs.declared.words.Command.TheVariants.{Judge, Start, Gen}
 use Rattle.solver_top.specs.declared.status.Verdict.{Verdict}
-use Rattle.solver_top.specs.Answers.{IsAnswerOf, ReadsAll, IsJudged, IsStarted}
+use Rattle.solver_top.specs.Words.{IsLineOf}
+use Rattle.solver_top.specs.Answers.{IsAnswerOf, IsAnswerTo, TakesInput, IsTooLong, reads_input, most_input}
 
-pub judge_is : (command : Command) (input : List ℕ) (left : Option (List ℕ)) (verdict : Verdict) (text : List ℕ) → command ≡ Judge → ReadsAll IsJudged input left verdict text → IsAnswerOf command input left verdict text
-judge_is Judge input left verdict text e h = h
-judge_is Start input left verdict text e h = absurd (cc)
-judge_is (Gen kind n seed) input left verdict text e h = absurd (cc)
+-- the place of a word in a list of words that are known
+abbrev place : List (List ℕ) → List ℕ → ℕ
+place [] word = 0
+place (known ∷ others) word = cond (bytes_eq word known) 0 (1 + place others word)
 
-pub start_is : (command : Command) (input : List ℕ) (left : Option (List ℕ)) (verdict : Verdict) (text : List ℕ) → command ≡ Start → ReadsAll IsStarted input left verdict text → IsAnswerOf command input left verdict text
-start_is Judge input left verdict text e h = absurd (cc)
-start_is Start input left verdict text e h = h
-start_is (Gen kind n seed) input left verdict text e h = absurd (cc)
+abbrev first_words : List (List ℕ)
+first_words = codes "judge" ∷ codes "start" ∷ codes "gen" ∷ []
+
+abbrev first_word : Command → List ℕ
+first_word Judge = codes "judge"
+first_word Start = codes "start"
+first_word (Gen kind n seed) = codes "gen"
+
+same_first : (x y : List ℕ) (xs ys : List (List ℕ)) → x ∷ xs ≡ y ∷ ys → x ≡ y
+same_first x y xs ys e = cc
+
+same_later : (x y : List ℕ) (xs ys : List (List ℕ)) → x ∷ xs ≡ y ∷ ys → xs ≡ ys
+same_later x y xs ys e = cc
+
+first_is : (words : List (List ℕ)) (command : Command) → IsLineOf words command → (later : List (List ℕ)) × (words ≡ first_word command ∷ later)
+first_is words Judge line = ([], line)
+first_is words Start line = ([], line)
+first_is words (Gen kind n seed) line = (kind_word kind ∷ decimal n ∷ decimal seed ∷ [], line.0)
+
+abbrev kind_words : List (List ℕ)
+kind_words = codes "scatter" ∷ codes "grid" ∷ codes "ring" ∷ []
+
+-- a kind is known by its word
+kind_same : (a b : Kind) → place kind_words (kind_word a) ≡ place kind_words (kind_word b) → a ≡ b
+kind_same Scatter Scatter e = refl
+kind_same Grid Grid e = refl
+kind_same Ring Ring e = refl
+kind_same a b e = absurd (omega (arith, e))
+
+gen_same : (words : List (List ℕ)) (k l : Kind) (n m s t : ℕ) → IsLineOf words (Gen k n s) → IsLineOf words (Gen l m t) → ◌≡◌ {A = Command} (Gen k n s) (Gen l m t)
+gen_same words k l n m s t (e, low, high, small) (f, low', high', small') =
+    let all : codes "gen" ∷ kind_word k ∷ decimal n ∷ decimal s ∷ [] ≡ codes "gen" ∷ kind_word l ∷ decimal m ∷ decimal t ∷ [] = sym e ∙ f in
+    let later = same_later (codes "gen") (codes "gen") _ _ all in
+    let numbers = same_later (kind_word k) (kind_word l) _ _ later in
+    let last = same_later (decimal n) (decimal m) _ _ numbers in
+    let kinds : k ≡ l = kind_same k l (ap (place kind_words) (same_first (kind_word k) (kind_word l) _ _ later)) in
+    let counts : n ≡ m = decimal_injective n m (omega (arith, high)) (omega (arith, high')) (same_first (decimal n) (decimal m) _ _ numbers) in
+    let seeds : s ≡ t = decimal_injective s t small small' (same_first (decimal s) (decimal t) _ _ last) in
+    ap (λ x. Gen x n s) kinds ∙ ap (λ x. Gen l x s) counts ∙ ap (λ x. Gen l m x) seeds
+
+same_by_place : (words : List (List ℕ)) (a b : Command) → IsLineOf words a → IsLineOf words b → place first_words (first_word a) ≡ place first_words (first_word b) → a ≡ b
+same_by_place words Judge Judge line own e = refl
+same_by_place words Start Start line own e = refl
+same_by_place words (Gen k n s) (Gen l m t) line own e = gen_same words k l n m s t line own
+same_by_place words a b line own e = absurd (omega (arith, e))
+
+-- words are the line of one command alone
+pub line_command_same : (words : List (List ℕ)) (a b : Command) → IsLineOf words a → IsLineOf words b → a ≡ b
+line_command_same words a b line own =
+    let (xs, e) = first_is words a line in
+    let (ys, f) = first_is words b own in
+    same_by_place words a b line own (ap (place first_words) (same_first (first_word a) (first_word b) xs ys (sym e ∙ f)))
+
+pub answer_to_same : (a b : Command) (xs : List ℕ) (verdict : Verdict) (text : List ℕ) → a ≡ b → IsAnswerTo a xs verdict text → IsAnswerTo b xs verdict text
+answer_to_same a b xs verdict text e h = subst (λ x. IsAnswerTo x xs verdict text) e h
+
+pub answer_of_same : (a b : Command) (xs : List ℕ) (left : Option (List ℕ)) (verdict : Verdict) (text : List ℕ) → a ≡ b → IsAnswerOf a xs left verdict text → IsAnswerOf b xs left verdict text
+answer_of_same a b xs left verdict text e h = subst (λ x. IsAnswerOf x xs left verdict text) e h
+
+-- a command that reads no input answers the same to each
+pub answer_to_any : (command : Command) (xs ys : List ℕ) (verdict : Verdict) (text : List ℕ) → reads_input command ≡ false → IsAnswerTo command xs verdict text → IsAnswerTo command ys verdict text
+answer_to_any Judge xs ys verdict text e h = absurd (cc)
+answer_to_any Start xs ys verdict text e h = absurd (cc)
+answer_to_any (Gen kind n seed) xs ys verdict text e h = h
+
+-- an input that was read to its end, and the answer to it
+pub answer_read : (command : Command) (reads : Bool) (bytes xs : List ℕ) (left : Option (List ℕ)) (verdict : Verdict) (text : List ℕ) → reads_input command ≡ reads → IsAnswerTo command bytes verdict text → (reads ≡ true → (bytes ≡ xs) × (length xs ≤ most_input) × (left ≡ Some [])) → (reads ≡ false → left ≡ Some xs) → IsAnswerOf command xs left verdict text
+answer_read command true bytes xs left verdict text e h whole alone =
+    let (same, few, at_end) = whole refl in
+    subst (λ b. TakesInput b (IsAnswerTo command) xs left verdict text) (sym e) (inr (few, at_end, subst (λ ys. IsAnswerTo command ys verdict text) same h))
+answer_read command false bytes xs left verdict text e h whole alone =
+    subst (λ b. TakesInput b (IsAnswerTo command) xs left verdict text) (sym e) (alone refl, answer_to_any command bytes xs verdict text e h)
+
+-- an input that is too long, and the refusal of it
+pub answer_long : (command : Command) (xs : List ℕ) (left : Option (List ℕ)) (verdict : Verdict) (text : List ℕ) → reads_input command ≡ true → IsTooLong xs left verdict text → IsAnswerOf command xs left verdict text
+answer_long command xs left verdict text e long = subst (λ b. TakesInput b (IsAnswerTo command) xs left verdict text) (sym e) (inl long)

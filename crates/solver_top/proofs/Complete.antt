@@ -1,5 +1,5 @@
 -- Words that are a line, and an input that has its reading, are answered by Done or No.
-use Rattle.std.proofs.Common.{◌≡◌, ◌≢◌, ℕ, ◌≤◌, List, [], ◌∷◌, length, map, codes, Option, Result, Ok, ◌⊎◌, inl, inr, refl, arith, sym, ◌∙◌, ap, subst, ℤ, get_or}
+use Rattle.std.proofs.Common.{◌≡◌, ℕ, ◌≤◌, List, length, map, Option, Result, Ok, ◌⊎◌, inl, inr, refl, arith, sym, ◌∙◌, ap, subst, ℤ}
 use Rattle.serde_json.specs.Data.{Data}
 use Rattle.plane.specs.declared.coordinates.Point.{Point}
 use Rattle.plane.specs.declared.coordinates.BadPoints.{BadPoints}
@@ -30,8 +30,9 @@ use Rattle.solver_top.specs.declared.refusals.BundleFault.TheVariants.{NotJson, 
 use Rattle.solver_top.specs.declared.refusals.Refusal.{Refusal}
 use Rattle.solver_top.specs.declared.refusals.Refusal.TheVariants.{Bundle, Instance as OfInstance, Solution}
 use Rattle.solver_top.specs.Words.{IsLineOf}
+use Rattle.solver_top.proofs.Commands.{line_command_same}
 use Rattle.solver_top.specs.Bundles.{HasParts, HasBundle, HasRefusal, HasBundleFault, IsNamed, IsNamedSolution}
-use Rattle.solver_top.specs.Answers.{IsAnswer, IsAnswerOf, IsJudged, IsStarted, IsTooLong, HasInput, most_input}
+use Rattle.solver_top.specs.Answers.{IsAnswer, IsAnswerOf, IsJudged, IsStarted, IsTooLong, HasInput, IsRefused, IsRefusedInstance, most_input}
 
 no_fault : (S : List Point) (b : BadPoints) → AreAccepted S → IsFault S b → ⊥
 no_fault S (TooFew n) ok h = omega (arith, ok.count.0, h.1, h.0)
@@ -48,18 +49,6 @@ given_no_fault reading name S f gives ok named fault =
 
 ok_same : {A E : Type 0} {x y : A} → ◌≡◌ {A = Result A E} (Ok x) (Ok y) → x ≡ y
 ok_same e = cc
-
-first_same : (x y : List ℕ) (xs ys : List (List ℕ)) → x ∷ xs ≡ y ∷ ys → x ≡ y
-first_same x y xs ys e = cc
-
-judge_start : codes "judge" ≢ codes "start"
-judge_start e = let f : ◌≡◌ {A = ℕ} 106 115 = ap (λ (xs : List ℕ). get_or xs 0 0) e in omega (arith, f)
-
-judge_gen : codes "judge" ≢ codes "gen"
-judge_gen e = let f : ◌≡◌ {A = ℕ} 106 103 = ap (λ (xs : List ℕ). get_or xs 0 0) e in omega (arith, f)
-
-start_gen : codes "start" ≢ codes "gen"
-start_gen e = let f : ◌≡◌ {A = ℕ} 115 103 = ap (λ (xs : List ℕ). get_or xs 0 0) e in omega (arith, f)
 
 parts_same : (input : List ℕ) (a b c d : Data) → HasParts input a b → HasParts input c d → (a ≡ c) × (b ≡ d)
 parts_same input a b c d h k =
@@ -96,6 +85,12 @@ no_refusal input S K (Solution f) (a, b, parts, (name, gives, ok), edges) (c, d,
     no_edges_fault (edges_in (length S) b) (map ends K) f edges named
     (subst (λ (x : Data). HasEdgesFault (edges_in (length S) x) f) (sym same.1) (subst (λ (n : ℕ). HasEdgesFault (edges_in n d) f) (sym count) fault))
 
+pub not_refused : (input text : List ℕ) → HasInput Judge input → IsRefused input text → ⊥
+not_refused input text (few, (S, K, has)) (refusal, h, e) = no_refusal input S K refusal has h
+
+pub not_refused_instance : (input text : List ℕ) → HasInput Start input → IsRefusedInstance input text → ⊥
+not_refused_instance input text (few, (name, S, gives, ok)) (f, named, fault, e) = given_no_fault (instance_from input) name S f gives ok named fault
+
 abbrev IsAnswered : Verdict → Type 0
 IsAnswered verdict = (verdict ≡ Done) ⊎ (verdict ≡ No)
 
@@ -114,24 +109,19 @@ started_answer input name S Refused text gives ok (f, named, fault, e) = absurd 
 long_enough : (input : List ℕ) (left : Option (List ℕ)) (verdict : Verdict) (text : List ℕ) → length input ≤ most_input → IsTooLong input left verdict text → ⊥
 long_enough input left verdict text few h = omega (arith, h.0.0)
 
--- a line's answer, where the input has its reading
-command_answered : (words : List (List ℕ)) (command other : Command) (input : List ℕ) (left : Option (List ℕ)) (verdict : Verdict) (text : List ℕ) → IsLineOf words command → IsLineOf words other → HasInput command input → IsAnswerOf other input left verdict text → IsAnswered verdict
-command_answered words Judge Judge input left verdict text line own (few, (S, K, has)) (inl long) = absurd (long_enough input left verdict text few long)
-command_answered words Judge Judge input left verdict text line own (few, (S, K, has)) (inr (len, at_end, h)) = judged_answer input S K verdict text has h
-command_answered words Start Start input left verdict text line own (few, (name, S, gives, ok)) (inl long) = absurd (long_enough input left verdict text few long)
-command_answered words Start Start input left verdict text line own (few, (name, S, gives, ok)) (inr (len, at_end, h)) = started_answer input name S verdict text gives ok h
-command_answered words (Gen k n s) (Gen k' n' s') input left verdict text line own has h = inl h.1
-command_answered words Judge Start input left verdict text line own has h = absurd (judge_start (first_same (codes "judge") (codes "start") [] [] (sym line ∙ own)))
-command_answered words Judge (Gen k n s) input left verdict text line own has h = absurd (judge_gen (first_same (codes "judge") (codes "gen") [] _ (sym line ∙ own.0)))
-command_answered words Start Judge input left verdict text line own has h = absurd (judge_start (first_same (codes "judge") (codes "start") [] [] (sym own ∙ line)))
-command_answered words Start (Gen k n s) input left verdict text line own has h = absurd (start_gen (first_same (codes "start") (codes "gen") [] _ (sym line ∙ own.0)))
-command_answered words (Gen k n s) Judge input left verdict text line own has h = absurd (judge_gen (first_same (codes "judge") (codes "gen") [] _ (sym own ∙ line.0)))
-command_answered words (Gen k n s) Start input left verdict text line own has h = absurd (start_gen (first_same (codes "start") (codes "gen") [] _ (sym own ∙ line.0)))
+-- a command's answer, where the input has its reading
+command_answered : (command : Command) (input : List ℕ) (left : Option (List ℕ)) (verdict : Verdict) (text : List ℕ) → HasInput command input → IsAnswerOf command input left verdict text → IsAnswered verdict
+command_answered Judge input left verdict text (few, (S, K, has)) (inl long) = absurd (long_enough input left verdict text few long)
+command_answered Judge input left verdict text (few, (S, K, has)) (inr (len, at_end, h)) = judged_answer input S K verdict text has h
+command_answered Start input left verdict text (few, (name, S, gives, ok)) (inl long) = absurd (long_enough input left verdict text few long)
+command_answered Start input left verdict text (few, (name, S, gives, ok)) (inr (len, at_end, h)) = started_answer input name S verdict text gives ok h
+command_answered (Gen kind n seed) input left verdict text has (alone, (done, made)) = inl done
 
 -- words that are a line, and an input that has its reading, are answered by Done or No
 pub is_answered : (words : List (List ℕ)) (command : Command) (input : List ℕ) (left : Option (List ℕ)) (verdict : Verdict) (text : List ℕ) → IsLineOf words command → HasInput command input → IsAnswer words input left verdict text → IsAnswered verdict
 is_answered words command input left verdict text line has (inl (is, kept, (k, fault, e))) = absurd (fault.none command line)
-is_answered words command input left verdict text line has (inr (other, own, h)) = command_answered words command other input left verdict text line own has h
+is_answered words command input left verdict text line has (inr (other, own, h)) =
+    command_answered command input left verdict text has (subst (λ c. IsAnswerOf c input left verdict text) (line_command_same words other command own line) h)
 
 -- the status of such a verdict
 pub done_or_no : (verdict : Verdict) (s : Status) → IsAnswered verdict → s ≡ status_of verdict → (s ≡ status.Done) ⊎ (s ≡ status.No)

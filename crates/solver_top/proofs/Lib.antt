@@ -3,3 +3,4 @@ pub mod Within
 pub mod Results
 pub mod Commands
 pub mod Complete
+pub mod Written

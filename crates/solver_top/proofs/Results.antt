@@ -1,7 +1,7 @@
 -- Facts about the value of a result, carried on.
 use Rattle.mcp_outside.specs.declared.ends.ReadEnd.{ReadEnd}
 use Rattle.mcp_outside.specs.declared.ends.ReadEnd.TheVariants.{Failed, TooLong}
-use Rattle.std.proofs.Common.{◌≡◌, Option, Some, None, Result, Ok, Err, IfOk, IfSome, subst}
+use Rattle.std.proofs.Common.{◌≡◌, Option, Some, None, Result, Ok, Err, IfOk, OnOk, IfSome, subst, Bool, true, false, ◌⊎◌, inl, inr, refl}
 
 pub if_ok : {A E : Type 0} (r : Result A E) (P Q : A → Type 0) → IfOk r P → ((x : A) → P x → Q x) → IfOk r Q
 if_ok (Ok x) P Q h f = f x h
@@ -10,6 +10,14 @@ if_ok (Err e) P Q h f = tt
 pub if_ok_both : {A E : Type 0} (r : Result A E) (P Q R : A → Type 0) → IfOk r P → IfOk r Q → ((x : A) → P x → Q x → R x) → IfOk r R
 if_ok_both (Ok x) P Q R h k f = f x h k
 if_ok_both (Err e) P Q R h k f = tt
+
+pub if_ok_three : {A E : Type 0} (r : Result A E) (P R T : A → Type 0) (Q : Type 0) → IfOk r P → OnOk r Q → IfOk r R → ((x : A) → P x → Q → R x → T x) → IfOk r T
+if_ok_three (Ok x) P R T Q h k l f = f x h k l
+if_ok_three (Err e) P R T Q h k l f = tt
+
+pub true_or_false : (b : Bool) → (b ≡ true) ⊎ (b ≡ false)
+true_or_false true = inl refl
+true_or_false false = inr refl
 
 pub if_some_at : {A : Type 0} (o : Option A) (x : A) (P : A → Type 0) → o ≡ Some x → IfSome o P → P x
 if_some_at None x P e h = absurd (cc)

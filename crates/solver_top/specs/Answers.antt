@@ -1,5 +1,5 @@
 -- What the program answers to its words and its input: a verdict and a text. (This project's own.)
-use Rattle.std.specs.Prelude.{◌≡◌, ◌≢◌, ℕ, ◌+◌, ◌≤◌, List, [], ◌++◌, length, map, codes, ◌⊎◌, Some}
+use Rattle.std.specs.Prelude.{◌≡◌, ◌≢◌, ℕ, ◌+◌, ◌≤◌, List, [], ◌++◌, length, map, codes, ◌⊎◌, Some, Bool, true, false}
 use Rattle.std.specs.declared.option.Option.{Option}
 use Rattle.mcp_outside.specs.Bytes.{Took}
 use Rattle.plane.specs.declared.coordinates.Point.{Point}
@@ -79,16 +79,34 @@ IsInRange Judge = Unit {0}
 IsInRange Start = Unit {0}
 IsInRange (Gen kind n seed) = (3 ≤ n) × (n ≤ 5000)
 
+-- a command reads its input
+abbrev pub reads_input : Command → Bool
+reads_input Judge = true
+reads_input Start = true
+reads_input (Gen kind n seed) = false
+
+-- what a command answers to the input that it read; one that reads none answers the same to each
+abbrev pub IsAnswerTo : Command → List ℕ → Verdict → List ℕ → Type 0
+IsAnswerTo Judge input verdict text = IsJudged input verdict text
+IsAnswerTo Start input verdict text = IsStarted input verdict text
+IsAnswerTo (Gen kind n seed) input verdict text = (verdict ≡ Done) × IsGenerated kind n seed text
+
+-- the input is read to its end, or left alone
+abbrev pub TakesInput : Bool → (List ℕ → Verdict → List ℕ → Type 0) → List ℕ → Option (List ℕ) → Verdict → List ℕ → Type 0
+TakesInput true Answers input left verdict text = ReadsAll Answers input left verdict text
+TakesInput false Answers input left verdict text = (left ≡ Some input) × Answers input verdict text
+
 -- what a command answers, of the bytes that the source had left, with what it has left then
 abbrev pub IsAnswerOf : Command → List ℕ → Option (List ℕ) → Verdict → List ℕ → Type 0
-IsAnswerOf Judge input left verdict text = ReadsAll IsJudged input left verdict text
-IsAnswerOf Start input left verdict text = ReadsAll IsStarted input left verdict text
-IsAnswerOf (Gen kind n seed) input left verdict text = (left ≡ Some input) × (verdict ≡ Done) × IsGenerated kind n seed text
+IsAnswerOf command input left verdict text = TakesInput (reads_input command) (IsAnswerTo command) input left verdict text
+
+-- words that are no line, and the text that shows the position
+abbrev pub IsUsageText : List (List ℕ) → List ℕ → Type 0
+IsUsageText words text = (k : ℕ) × IsFaultAt words k × (text ≡ usage_line k)
 
 -- words that are no line, with the position that is shown; nothing is read
 abbrev pub IsUsage : List (List ℕ) → List ℕ → Option (List ℕ) → Verdict → List ℕ → Type 0
-IsUsage words input left verdict text =
-    (verdict ≡ Usage) × (left ≡ Some input) × ((k : ℕ) × IsFaultAt words k × (text ≡ usage_line k))
+IsUsage words input left verdict text = (verdict ≡ Usage) × (left ≡ Some input) × IsUsageText words text
 
 -- what the program answers
 abbrev pub IsAnswer : List (List ℕ) → List ℕ → Option (List ℕ) → Verdict → List ℕ → Type 0

@@ -49,10 +49,14 @@ IsLineOf words Judge = words ≡ codes "judge" ∷ []
 IsLineOf words Start = words ≡ codes "start" ∷ []
 IsLineOf words (Gen kind n seed) = (words ≡ codes "gen" ∷ kind_word kind ∷ decimal n ∷ decimal seed ∷ []) × (3 ≤ n) × (n ≤ 5000) × (seed < 2 ^ 64)
 
+-- the words are the line of no command
+abbrev pub IsNoLine : List (List ℕ) → Type 0
+IsNoLine words = (command : Command) → ¬ IsLineOf words command
+
 -- The words are no line: k is the position of the first one that no line allows after those before it, or the number of
 -- words where they begin a longer line.
 pub record IsFaultAt (words : List (List ℕ)) (k : ℕ) : Type 0 where
   pub within : k ≤ length words
   pub before : BeginsALine (take k words)
   pub fault : (k ≡ length words) ⊎ ¬ BeginsALine (take (k + 1) words)
-  pub none : (command : Command) → ¬ IsLineOf words command
+  pub none : IsNoLine words

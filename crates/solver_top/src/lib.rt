@@ -2,9 +2,11 @@
 #![tactic(auto)]
 
 mod answers;
+mod arguments;
 mod bundles;
 mod generating;
 mod judging;
+pub mod laws;
 mod lines;
 mod refusals;
 mod running;
@@ -13,13 +15,14 @@ mod status;
 mod words;
 
 pub use answers::Answer;
+pub use arguments::words_after_name;
 pub use bundles::{Bundle, read_bundle};
 pub use generating::generated;
 pub use judging::judged;
 pub use refusals::{BundleFault, Refusal, Unread};
 pub use running::{MOST_INPUT, run};
 pub use starting::started;
-pub use status::{Status, Verdict};
+pub use status::{NO_WORDS, Status, Verdict};
 pub use words::{Command, read_words};
 
 #[cfg(test)]

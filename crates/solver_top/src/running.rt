@@ -1,17 +1,18 @@
-// The run of the program, in phases: words, input and work, text.
-ghost use Rattle.std.specs.Prelude.{◌≡◌, ◌≢◌, ◌≤◌, ◌⊎◌, ℕ, List, [], length, codes, Some, IfOk, IfErr, IsErrOf};
-ghost use Rattle.std.specs.Io.KnownBytes.{Appends, Keeps};
+// The run of the program, in phases: words, input, work, text, write.
+ghost use Rattle.std.specs.Prelude.{◌≡◌, ◌≢◌, ◌≤◌, ◌<◌, ◌+◌, ◌⊎◌, ℕ, List, [], length, codes, true, false, Some, IsOk, IfOk, IfErr, IsErrOf};
+ghost use Rattle.std.specs.Io.KnownBytes.{Appends};
 ghost use Rattle.mcp_outside.specs.Causes.{Rose};
-ghost use Rattle.mcp_outside.specs.Bytes.{AppendsPrefix};
-ghost use Rattle.solver_top.specs.Words.{words_of, IsLineOf};
+ghost use Rattle.mcp_outside.specs.Bytes.{AppendsPrefix, Took};
 ghost use Rattle.plane.specs.declared.coordinates.Point.{Point};
 ghost use Rattle.plane.specs.declared.segment.Pair.{Pair};
 ghost use Rattle.partition_defs.specs.Partition.{IsConvexPartition};
 ghost use Rattle.partition_defs.specs.Triangulation.{AreDistinct};
+ghost use Rattle.generator.specs.declared.kinds.Kind.{Kind};
+ghost use Rattle.solver_top.specs.Words.{words_of, IsLineOf, IsNoLine};
 ghost use Rattle.solver_top.specs.Bundles.{HasBundle};
 ghost use Rattle.solver_top.specs.Lines.{usage_line, judgement_line};
-ghost use Rattle.solver_top.specs.Statuses.{status_of};
-ghost use Rattle.solver_top.specs.Answers.{IsAnswer, IsAnswerOf, ReadsAll, IsJudged, IsStarted, IsInRange, HasInput};
+ghost use Rattle.solver_top.specs.Statuses.{status_of, HasText, IsWritten};
+ghost use Rattle.solver_top.specs.Answers.{IsAnswer, IsAnswerOf, IsAnswerTo, ReadsAll, IsJudged, IsStarted, IsGenerated, IsUsageText, IsInRange, HasInput, reads_input, most_input};
 
 use crate::answers::Answer;
 use crate::generating::generated;
@@ -21,8 +22,10 @@ use crate::starting::started;
 use crate::status::{Status, Verdict};
 use crate::words::{Command, read_words};
 use cp_judge::Judgement;
-use mcp_outside::{Gate, ReadEnd, Sink, Source, read_uncounted, write_all};
+use mcp_outside::{Gate, NoMemory, ReadEnd, Sink, Source, Steps, read_all, write_all};
 use std::alloc::Global;
+use std::marker::Brand;
+use std::sync::ledger::{Blank, Ledger};
 use std::thread::Threads;
 
 /// The greatest input, in bytes. (This project's own.)
@@ -39,11 +42,18 @@ enum Halt {
 fn answer<I: Source>(alloc: Global, words: &[String], input: &mut I) -> Result<Answer, Halt>
     ensures later { I.faults input.old ≤ I.faults input.new }
     ensures failed { IsErrOf result Halt.ReadFault → Rose (I.faults input.old) (I.faults input.new) }
+    ensures kept { ¬ IsErrOf result Halt.ReadFault → I.faults input.new ≡ I.faults input.old }
     ensures answer { (xs : List ℕ) → I.left input.old ≡ Some xs → IfOk result (λ answer.
         IsAnswer (words_of words.now) xs (I.left input.new) answer.verdict answer.text.items) }
+    ensures usage { IsNoLine (words_of words.now) → (input.new ≡ input.old) × IfOk result (λ answer.
+        (answer.verdict ≡ Verdict.Usage) × IsUsageText (words_of words.now) answer.text.items) }
+    ensures alone { (command : Command) → IsLineOf (words_of words.now) command → reads_input command ≡ false →
+        (input.new ≡ input.old) × IfOk result (λ answer. IsAnswerTo command [] answer.verdict answer.text.items) }
+    ensures command { (command : Command) (xs : List ℕ) → IsLineOf (words_of words.now) command → I.left input.old ≡ Some xs →
+        IfOk result (λ answer. IsAnswerOf command xs (I.left input.new) answer.verdict answer.text.items) }
 {
     match read_words(words) {
-        Ok(command) => command_answer(alloc, command, input),
+        Ok(command) => command_answer::<I, Brand>(alloc, command, input, Blank::new(1)),
         Err(k) => usage_answer(alloc, k),
     }
 }
@@ -60,53 +70,69 @@ fn usage_answer(alloc: Global, k: usize) -> Result<Answer, Halt>
     }
 }
 
-// What a command answers to its input.
-fn command_answer<I: Source>(alloc: Global, command: Command, input: &mut I) -> Result<Answer, Halt>
-    requires { IsInRange command }
+// What a command answers to its input, under a ledger of its own for the calls of the source.
+fn command_answer<I: Source, L: Ledger>(
+    alloc: Global,
+    command: Command,
+    input: &mut I,
+    blank: Blank,
+) -> Result<Answer, Halt>
+    requires range { IsInRange command }
+    requires name { blank.name ≡ L.name }
+    requires parts { blank.parts ≡ L.parts }
+    requires some { 0 < blank.parts }
     ensures later { I.faults input.old ≤ I.faults input.new }
     ensures failed { IsErrOf result Halt.ReadFault → Rose (I.faults input.old) (I.faults input.new) }
+    ensures kept { ¬ IsErrOf result Halt.ReadFault → I.faults input.new ≡ I.faults input.old }
+    ensures alone { reads_input command ≡ false →
+        (input.new ≡ input.old) × IfOk result (λ answer. IsAnswerTo command [] answer.verdict answer.text.items) }
     ensures answer { (xs : List ℕ) → I.left input.old ≡ Some xs → IfOk result (λ answer.
         IsAnswerOf command xs (I.left input.new) answer.verdict answer.text.items) }
 {
+    let mut steps = Steps::<L>::make(blank);
+    match input_of(alloc, command, input, &mut steps) {
+        Ok(bytes) => match work(alloc, command, bytes.as_slice()) {
+            Ok(answer) => Ok(answer),
+            Err(_) => Err(Halt::NoMemory),
+        },
+        Err(end) => unread(alloc, end),
+    }
+}
+
+// The input of a command, read to its end where it reads one. Each call of `take` counts in `steps`.
+fn input_of<I: Source, L: Ledger>(
+    alloc: Global,
+    command: Command,
+    input: &mut I,
+    steps: &mut Steps<L>,
+) -> Result<Vec<u8>, ReadEnd>
+    ensures later { I.faults input.old ≤ I.faults input.new }
+    ensures failed { IsErrOf result ReadEnd.Failed → Rose (I.faults input.old) (I.faults input.new) }
+    ensures kept { ¬ IsErrOf result ReadEnd.Failed → I.faults input.new ≡ I.faults input.old }
+    ensures calls { steps.new ≤ steps.old + most_input + 1 }
+    ensures each_took { IfOk result (λ bytes. steps.new ≤ steps.old + length bytes.items + 1) }
+    ensures alone { reads_input command ≡ false → (input.new ≡ input.old) × IsOk result × IfOk result (λ bytes. bytes.items ≡ []) }
+    ensures whole { reads_input command ≡ true → (xs : List ℕ) → I.left input.old ≡ Some xs → IfOk result (λ bytes.
+        (bytes.items ≡ xs) × (length xs ≤ most_input) × (I.left input.new ≡ Some [])) }
+    ensures long { reads_input command ≡ true → (xs : List ℕ) → I.left input.old ≡ Some xs → IsErrOf result ReadEnd.TooLong →
+        Took (most_input + 1) xs (I.left input.new) }
+{
+    if command.reads_input() {
+        read_all(alloc, input, MOST_INPUT, steps)
+    } else {
+        Ok(Vec::new(alloc))
+    }
+}
+
+// What a command answers to an input that was read, or to none.
+fn work(alloc: Global, command: Command, bytes: &[u8]) -> Result<Answer, NoMemory>
+    requires { IsInRange command }
+    ensures { IfOk result (λ answer. IsAnswerTo command bytes.now answer.verdict answer.text.items) }
+{
     match command {
-        Command::Judge => judge_answer(alloc, input),
-        Command::Start => start_answer(alloc, input),
-        Command::Gen { kind, n, seed } => match generated(alloc, kind, n, seed) {
-            Ok(answer) => Ok(answer),
-            Err(_) => Err(Halt::NoMemory),
-        },
-    }
-}
-
-// What `judge` answers to its input.
-fn judge_answer<I: Source>(alloc: Global, input: &mut I) -> Result<Answer, Halt>
-    ensures later { I.faults input.old ≤ I.faults input.new }
-    ensures failed { IsErrOf result Halt.ReadFault → Rose (I.faults input.old) (I.faults input.new) }
-    ensures answer { (xs : List ℕ) → I.left input.old ≡ Some xs → IfOk result (λ answer.
-        ReadsAll IsJudged xs (I.left input.new) answer.verdict answer.text.items) }
-{
-    match read_uncounted(alloc, input, MOST_INPUT) {
-        Ok(bytes) => match judged(alloc, bytes.as_slice()) {
-            Ok(answer) => Ok(answer),
-            Err(_) => Err(Halt::NoMemory),
-        },
-        Err(end) => unread(alloc, end),
-    }
-}
-
-// What `start` answers to its input.
-fn start_answer<I: Source>(alloc: Global, input: &mut I) -> Result<Answer, Halt>
-    ensures later { I.faults input.old ≤ I.faults input.new }
-    ensures failed { IsErrOf result Halt.ReadFault → Rose (I.faults input.old) (I.faults input.new) }
-    ensures answer { (xs : List ℕ) → I.left input.old ≡ Some xs → IfOk result (λ answer.
-        ReadsAll IsStarted xs (I.left input.new) answer.verdict answer.text.items) }
-{
-    match read_uncounted(alloc, input, MOST_INPUT) {
-        Ok(bytes) => match started(alloc, bytes.as_slice()) {
-            Ok(answer) => Ok(answer),
-            Err(_) => Err(Halt::NoMemory),
-        },
-        Err(end) => unread(alloc, end),
+        Command::Judge => judged(alloc, bytes),
+        Command::Start => started(alloc, bytes),
+        Command::Gen { kind, n, seed } => generated(alloc, kind, n, seed),
     }
 }
 
@@ -115,6 +141,7 @@ fn unread(alloc: Global, end: ReadEnd) -> Result<Answer, Halt>
     ensures long { IfOk result (λ answer. (end ≡ ReadEnd.TooLong) × (answer.verdict ≡ Verdict.Refused)
         × (answer.text.items ≡ codes "refused TooLong\n")) }
     ensures failed { IsErrOf result Halt.ReadFault → end ≡ ReadEnd.Failed }
+    ensures fault { end ≡ ReadEnd.Failed → IsErrOf result Halt.ReadFault }
 {
     match end {
         ReadEnd::TooLong => too_long(alloc),
@@ -140,8 +167,10 @@ fn deliver<O: Sink>(answer: &Answer, out: &mut O) -> Status
     ensures later { O.faults out.old ≤ O.faults out.new }
     ensures status { (result ≡ status_of answer.now.verdict) ⊎ (result ≡ Status.WriteFault) }
     ensures whole { result ≢ Status.WriteFault → Appends (O.contents out.old) (O.contents out.new) answer.now.text.items }
+    ensures kept { result ≢ Status.WriteFault → O.faults out.new ≡ O.faults out.old }
     ensures fault { result ≡ Status.WriteFault → Rose (O.faults out.old) (O.faults out.new) }
     ensures prefix { result ≡ Status.WriteFault → AppendsPrefix (O.contents out.old) (O.contents out.new) answer.now.text.items }
+    ensures written { IsWritten result answer.now.verdict answer.now.text.items (O.contents out.old) (O.contents out.new) }
 {
     match write_all(out, answer.text.as_slice()) {
         Ok(()) => answer.verdict.status(),
@@ -170,8 +199,24 @@ pub fn run<R: Threads + Sync, I: Source, O: Sink, G: Gate + Sync>(
         (verdict : Verdict) × (text : List ℕ) × IsAnswer (words_of words.now) xs (I.left input.new) verdict text
         × AppendsPrefix (O.contents out.old) (O.contents out.new) text }
     ensures read_fault { result ≡ Status.ReadFault → Rose (I.faults input.old) (I.faults input.new) }
+    // Every other status means that no fault came, of the sink and of the source.
+    ensures written_whole { result ≢ Status.WriteFault → O.faults out.new ≡ O.faults out.old }
+    ensures read_whole { result ≢ Status.ReadFault → I.faults input.new ≡ I.faults input.old }
     // Nothing was written after a fault of the source, and where memory was not found.
     ensures silent { (result ≡ Status.ReadFault) ⊎ (result ≡ Status.NoMemory) → out.new ≡ out.old }
+    // Words that are no line: the position is told, and the source is left alone, whether it tells its bytes or not.
+    ensures usage { IsNoLine (words_of words.now) → (input.new ≡ input.old) × (HasText result → (text : List ℕ)
+        × IsUsageText (words_of words.now) text × IsWritten result Verdict.Usage text (O.contents out.old) (O.contents out.new)) }
+    // What each command answers.
+    ensures judge { (xs : List ℕ) → IsLineOf (words_of words.now) Command.Judge → I.left input.old ≡ Some xs → HasText result →
+        (verdict : Verdict) × (text : List ℕ) × ReadsAll IsJudged xs (I.left input.new) verdict text
+        × IsWritten result verdict text (O.contents out.old) (O.contents out.new) }
+    ensures start { (xs : List ℕ) → IsLineOf (words_of words.now) Command.Start → I.left input.old ≡ Some xs → HasText result →
+        (verdict : Verdict) × (text : List ℕ) × ReadsAll IsStarted xs (I.left input.new) verdict text
+        × IsWritten result verdict text (O.contents out.old) (O.contents out.new) }
+    ensures generated { (kind : Kind) (n seed : ℕ) → IsLineOf (words_of words.now) (Command.Gen kind n seed) →
+        (input.new ≡ input.old) × (HasText result → (text : List ℕ) × IsGenerated kind n seed text
+        × IsWritten result Verdict.Done text (O.contents out.old) (O.contents out.new)) }
     // A convex partition is told of a bundle whose pairs, none of them twice, are one.
     ensures convex { (xs : List ℕ) → I.left input.old ≡ Some xs → IsLineOf (words_of words.now) Command.Judge → result ≡ Status.Done →
         (S : List Point) × (K : List Pair) × HasBundle xs S K × AreDistinct K × IsConvexPartition S K × (I.left input.new ≡ Some [])

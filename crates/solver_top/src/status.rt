@@ -1,4 +1,9 @@
 // How the program ends.
+ghost use Rattle.std.specs.Prelude.{◌≡◌};
+ghost use Rattle.solver_top.specs.Statuses.{status_of, number_of};
+
+/// The number with which the program ends where the machine gives no words. (This project's own.)
+pub const NO_WORDS: u8 = 7;
 
 /// How the program ends, by the number of its exit status. (This project's own.)
 #[derive(Clone, Copy, Debug, PartialEq, Eq)]
@@ -19,6 +24,23 @@ pub enum Status {
     NoMemory,
 }
 
+impl Status {
+    /// The number with which the program ends.
+    pub fn number(self) -> u8
+        ensures { result ≡ number_of self }
+    {
+        match self {
+            Status::Done => 0,
+            Status::No => 1,
+            Status::Usage => 2,
+            Status::Refused => 3,
+            Status::ReadFault => 4,
+            Status::WriteFault => 5,
+            Status::NoMemory => 6,
+        }
+    }
+}
+
 /// The verdict that a text stands for, before it is written.
 #[derive(Clone, Copy, Debug, PartialEq, Eq)]
 pub enum Verdict {
@@ -27,9 +49,6 @@ pub enum Verdict {
     Usage,
     Refused,
 }
-
-ghost use Rattle.solver_top.specs.Statuses.{status_of};
-ghost use Rattle.std.specs.Prelude.{◌≡◌};
 
 impl Verdict {
     /// The status of a text that was written whole.

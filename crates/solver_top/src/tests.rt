@@ -1,3 +1,5 @@
+mod refusals;
+
 use crate::{Status, run};
 use mcp_outside::{MemorySink, MemorySource, OpenGate};
 use std::alloc::Global;

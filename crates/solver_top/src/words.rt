@@ -2,6 +2,7 @@
 ghost use Rattle.std.specs.Prelude.{◌≡◌, ◌≢◌, ◌↔◌, ℕ, ◌+◌, ◌<◌, ◌≤◌, length, IfOk, IfErr, IsTrue, MatchOption, ◌∷◌, codes};
 ghost use Rattle.std.specs.Fmt.{decimal};
 ghost use Rattle.generator.specs.Names.{kind_word};
+ghost use Rattle.solver_top.specs.Answers.{reads_input};
 ghost use Rattle.solver_top.specs.Words.{words_of, IsLineOf, IsFaultAt, IsCount};
 
 use generator::Kind;
@@ -23,6 +24,18 @@ pub enum Command {
         /// Any number of 64 bits.
         seed: u64,
     },
+}
+
+impl Command {
+    /// Whether the command reads its input.
+    pub fn reads_input(self) -> bool
+        ensures { result ≡ reads_input self }
+    {
+        match self {
+            Command::Judge | Command::Start => true,
+            Command::Gen { .. } => false,
+        }
+    }
 }
 
 // The number that a word is, without sign or leading zero, from the least to the most.

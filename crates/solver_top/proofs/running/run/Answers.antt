@@ -1,4 +1,6 @@
-use Rattle.std.proofs.Common.{inl, inr}
+use Rattle.std.proofs.Common.{inl, inr, refl}
+use Rattle.solver_top.specs.declared.words.Command.TheVariants.{Judge, Start, Gen}
+use Rattle.solver_top.proofs.Written.{verdict_same, status_of_no_fault, written_same, answer_same}
 use Rattle.solver_top.proofs.Complete.{is_answered, done_or_no}
 use Rattle.solver_top.proofs.running.run.Goals as goal
 
@@ -7,3 +9,42 @@ returns-in-Ok-clause-complete g c = λ xs command told line has kept firm memory
     done_or_no c.in-Ok.answer.verdict c.deliver.result
     (is_answered _ command xs _ _ _ line has (c.in-Ok.ensures.answer xs told))
     (elim c.deliver.ensures.status [ inl e ↦ e | inr e ↦ absurd (firm (c.deliver.ensures.fault e)) ])
+
+pub returns-in-Ok-clause-answered : goal.returns-in-Ok-clause-answered
+returns-in-Ok-clause-answered g c = λ xs verdict told is.
+    let same = verdict_same c.deliver.result c.in-Ok.answer.verdict verdict c.deliver.ensures.status is in (
+      c.in-Ok.answer.text.items,
+      answer_same _ _ _ _ _ _ same (c.in-Ok.ensures.answer xs told),
+      c.deliver.ensures.whole (status_of_no_fault c.deliver.result verdict is),
+    )
+
+pub returns-in-Ok-clause-prefix : goal.returns-in-Ok-clause-prefix
+returns-in-Ok-clause-prefix g c = λ xs told is.
+    (c.in-Ok.answer.verdict, c.in-Ok.answer.text.items, c.in-Ok.ensures.answer xs told, c.deliver.ensures.prefix is)
+
+pub returns-in-Ok-clause-judge : goal.returns-in-Ok-clause-judge
+returns-in-Ok-clause-judge g c = λ xs line told has.
+    (c.in-Ok.answer.verdict, c.in-Ok.answer.text.items, c.in-Ok.ensures.command Judge xs line told, c.deliver.ensures.written)
+
+pub returns-in-Ok-clause-start : goal.returns-in-Ok-clause-start
+returns-in-Ok-clause-start g c = λ xs line told has.
+    (c.in-Ok.answer.verdict, c.in-Ok.answer.text.items, c.in-Ok.ensures.command Start xs line told, c.deliver.ensures.written)
+
+pub returns-in-Ok-clause-generated : goal.returns-in-Ok-clause-generated
+returns-in-Ok-clause-generated g c = λ kind n seed line.
+    let (same, (done, made)) = c.in-Ok.ensures.alone (Gen kind n seed) line refl in (
+      same,
+      λ has. (
+        c.in-Ok.answer.text.items,
+        made,
+        written_same c.deliver.result _ _ c.in-Ok.answer.text.items (g.O.Sink.contents c.args.out.now) (g.O.Sink.contents c.deliver.new.out) done c.deliver.ensures.written,
+      ),
+    )
+
+pub returns-in-Err-ReadFault-clause-generated : goal.returns-in-Err-ReadFault-clause-generated
+returns-in-Err-ReadFault-clause-generated g c = λ kind n seed line.
+    ((c.answer.ensures.alone (Gen kind n seed) line refl).0, λ has. absurd has)
+
+pub returns-in-Err-NoMemory-clause-generated : goal.returns-in-Err-NoMemory-clause-generated
+returns-in-Err-NoMemory-clause-generated g c = λ kind n seed line.
+    ((c.answer.ensures.alone (Gen kind n seed) line refl).0, λ has. absurd has)

@@ -1,0 +1,8 @@
+use Rattle.solver_top.proofs.Complete.{not_refused, not_refused_instance}
+use Rattle.solver_top.proofs.laws.read_or_refused.Goals as goal
+
+pub returns-clause-judge : goal.returns-clause-judge
+returns-clause-judge c = not_refused
+
+pub returns-clause-start : goal.returns-clause-start
+returns-clause-start c = not_refused_instance

@@ -87,7 +87,7 @@ def type_of(header):
 
 
 def public_clauses(path):
-    """The text of the clauses of public items of a source file."""
+    """The text of the clauses of public items of a source file. The invariant of a model is the crate's own affair."""
     lines = path.read_text().split('\n')
     names, modules = exported(path.relative_to(TOP).parts[1])
     all_out = path.stem in modules or path.stem == 'lib'
@@ -110,9 +110,9 @@ def public_clauses(path):
         method = re.match(r'\s+(pub(?:\(crate\))? )?(?:const )?fn\b', line)
         if method:
             public, in_clause = here and (of_trait or method[1] == 'pub '), False
-        if bare.startswith('ghost ') and line.startswith('    ') and here and not in_clause:
+        if re.match(r'    ghost (?!invariant\b)', line) and here and not in_clause:
             texts.append(bare)
-        if re.match(r'(requires|ensures|ghost)\b', bare):
+        if re.match(r'(requires|ensures|ghost (?!invariant\b))', bare):
             in_clause = True
         elif bare in ('{', '}') or bare.endswith(' {') and not in_clause:
             in_clause = False

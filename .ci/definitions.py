@@ -96,6 +96,9 @@ def public_clauses(path):
         bare = line.strip()
         if bare.startswith(('//', 'ghost use')):
             continue
+        if bare.startswith('ghost invariant'):
+            in_clause = False
+            continue
         top = re.match(r'(?:(pub)(\(crate\))? )?(?:const )?(impl|trait|struct|enum|fn)\b\s*(\w*)', line)
         if top:
             out, kind, name = bool(top[1]) and not top[2], top[3], top[4]
@@ -110,9 +113,9 @@ def public_clauses(path):
         method = re.match(r'\s+(pub(?:\(crate\))? )?(?:const )?fn\b', line)
         if method:
             public, in_clause = here and (of_trait or method[1] == 'pub '), False
-        if re.match(r'    ghost (?!invariant\b)', line) and here and not in_clause:
+        if line.startswith('    ghost ') and here and not in_clause:
             texts.append(bare)
-        if re.match(r'(requires|ensures|ghost (?!invariant\b))', bare):
+        if re.match(r'(requires|ensures|ghost)\b', bare):
             in_clause = True
         elif bare in ('{', '}') or bare.endswith(' {') and not in_clause:
             in_clause = False

@@ -39,7 +39,13 @@ enum Halt {
 }
 
 // What the program answers to its words and its input.
-fn answer<I: Source>(alloc: Global, words: &[String], input: &mut I) -> Result<Answer, Halt>
+fn answer<R: Threads + Sync, I: Source, G: Gate + Sync>(
+    rt: &R,
+    alloc: Global,
+    words: &[String],
+    input: &mut I,
+    gate: &G,
+) -> Result<Answer, Halt>
     ensures later { I.faults input.old ≤ I.faults input.new }
     ensures failed { IsErrOf result Halt.ReadFault → Rose (I.faults input.old) (I.faults input.new) }
     ensures kept { ¬ IsErrOf result Halt.ReadFault → I.faults input.new ≡ I.faults input.old }
@@ -53,7 +59,9 @@ fn answer<I: Source>(alloc: Global, words: &[String], input: &mut I) -> Result<A
         IfOk result (λ answer. IsAnswerOf command xs (I.left input.new) answer.verdict answer.text.items) }
 {
     match read_words(words) {
-        Ok(command) => command_answer::<I, Brand>(alloc, command, input, Blank::new(1)),
+        Ok(command) => {
+            command_answer::<R, I, G, Brand>(rt, alloc, command, input, gate, Blank::new(1))
+        }
         Err(k) => usage_answer(alloc, k),
     }
 }
@@ -71,10 +79,12 @@ fn usage_answer(alloc: Global, k: usize) -> Result<Answer, Halt>
 }
 
 // What a command answers to its input, under a ledger of its own for the calls of the source.
-fn command_answer<I: Source, L: Ledger>(
+fn command_answer<R: Threads + Sync, I: Source, G: Gate + Sync, L: Ledger>(
+    rt: &R,
     alloc: Global,
     command: Command,
     input: &mut I,
+    gate: &G,
     blank: Blank,
 ) -> Result<Answer, Halt>
     requires range { IsInRange command }
@@ -91,7 +101,7 @@ fn command_answer<I: Source, L: Ledger>(
 {
     let mut steps = Steps::<L>::make(blank);
     match input_of(alloc, command, input, &mut steps) {
-        Ok(bytes) => match work(alloc, command, bytes.as_slice()) {
+        Ok(bytes) => match work(rt, alloc, command, bytes.as_slice(), gate) {
             Ok(answer) => Ok(answer),
             Err(_) => Err(Halt::NoMemory),
         },
@@ -124,8 +134,14 @@ fn input_of<I: Source, L: Ledger>(
     }
 }
 
-// What a command answers to an input that was read, or to none.
-fn work(alloc: Global, command: Command, bytes: &[u8]) -> Result<Answer, NoMemory>
+// What a command answers to an input that was read, or to none. Commands with workers take the runtime and the gate.
+fn work<R: Threads + Sync, G: Gate + Sync>(
+    _rt: &R,
+    alloc: Global,
+    command: Command,
+    bytes: &[u8],
+    _gate: &G,
+) -> Result<Answer, NoMemory>
     requires { IsInRange command }
     ensures { IfOk result (λ answer. IsAnswerTo command bytes.now answer.verdict answer.text.items) }
 {
@@ -227,9 +243,7 @@ pub fn run<R: Threads + Sync, I: Source, O: Sink, G: Gate + Sync>(
         result ≢ Status.NoMemory → (result ≡ Status.Done) ⊎ (result ≡ Status.No) }
     ensures later { (I.faults input.old ≤ I.faults input.new) × (O.faults out.old ≤ O.faults out.new) }
 {
-    let _ = rt;
-    let _ = gate;
-    match answer(alloc, words, input) {
+    match answer(rt, alloc, words, input, gate) {
         Ok(answer) => deliver(&answer, out),
         Err(Halt::ReadFault) => Status::ReadFault,
         Err(Halt::NoMemory) => Status::NoMemory,

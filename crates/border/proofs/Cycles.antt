@@ -8,13 +8,13 @@ use Rattle.plane.specs.declared.coordinates.Turn.TheVariants.{Left}
 use Rattle.plane.specs.Geometry.{point}
 use Rattle.plane.specs.Hull.{IsBorderStep}
 use Rattle.plane.specs.Accepted.{AreAccepted}
-use Rattle.plane.proofs.laws.Border.{border_of_left, step_of_border, inner_by_steps, not_inner_left}
+use Rattle.plane.proofs.laws.Border.{border_of_left, step_of_border, inner_by_steps, not_inner_left, border_back, left_step_once, left_of_right}
 use Rattle.plane_laws.specs.Order.{IsBefore}
 use Rattle.plane_laws.proofs.Between.{by_order}
 use Rattle.border.specs.Cycle.{at, after, IsBorderCycle}
 use Rattle.border.specs.Walk.{seen, AreEnds, IsTrail, HasWalked}
 use Rattle.border.proofs.Lower.{not_back, not_self}
-use Rattle.border.proofs.Turned.{turned_back, back_turned, same_step, same_place, left_of_right, pair_back}
+use Rattle.border.proofs.Turned.{turned_back, back_turned, same_place}
 use Rattle.border.proofs.Trails.{trail_order, trail_inside, trail_meets}
 
 pub ends_true : (S : List Point) (m M : ℕ) → m < length S → M < length S → ((k : ℕ) → k < length S → k ≢ m → IsBefore (seen S true m) (seen S true k)) → ((k : ℕ) → k < length S → k ≢ M → IsBefore (seen S false M) (seen S false k)) → AreEnds S true m M
@@ -90,7 +90,7 @@ round_of S m M C D accepted there back some_c some_d up down =
     let f : w ≡ v = sym (high j hj) ∙ sym e ∙ low i hi in
     let one = up.steps i (omega arith) in
     let two : IsBorderStep S Left v (at (D ++ m ∷ []) (j + 1)) = subst (λ x. IsBorderStep S Left x (at (D ++ m ∷ []) (j + 1))) f (down.steps j (omega arith)) in
-    let g = same_step S v (at (C ++ M ∷ []) (i + 1)) (at (D ++ m ∷ []) (j + 1)) accepted (trail_inside S true m (C ++ M ∷ []) up there.from_in i (omega arith)) one two in
+    let g = left_step_once S v (at (C ++ M ∷ []) (i + 1)) (at (D ++ m ∷ []) (j + 1)) accepted (trail_inside S true m (C ++ M ∷ []) up there.from_in i (omega arith)) one two in
     let on = up.rises i (omega arith) in
     let off = back_turned (point S w) (point S (at (D ++ m ∷ []) (j + 1))) (down.rises j (omega arith)) in
     not_back (point S v) (point S (at (C ++ M ∷ []) (i + 1))) on (subst (λ y. IsBefore (point S y) (point S v)) (sym g) (subst (λ x. IsBefore (point S (at (D ++ m ∷ []) (j + 1))) (point S x)) f off))) in
@@ -134,7 +134,7 @@ cycle_from S m M B ends round = record {
   pairs = λ v w hv hw ne. (
     λ n. (let (i, h, sides) = n in elim sides [
       | inl (a, b) ↦ border_of_left S v w (along i v w h a b)
-      | inr (a, b) ↦ pair_back S w v (border_of_left S w v (along i w v h a b))
+      | inr (a, b) ↦ border_back S w v (border_of_left S w v (along i w v h a b))
     ]),
     λ pair. elim (step_of_border S v w hw (λ e. ne (sym e)) pair) [
       | inl step ↦ (let (i, h, e) = round.covered v w hv step in (i, h, inl (e, next i v w h e step)))
@@ -147,7 +147,7 @@ cycle_from S m M B ends round = record {
     along i v w h a b = subst (λ x. IsBorderStep S Left x w) a (subst (λ y. IsBorderStep S Left (at B i) y) b (round.steps i h))
 
     next : (i v w : ℕ) → i < length B → at B i ≡ v → IsBorderStep S Left v w → at B (after (length B) i) ≡ w
-    next i v w h e step = same_step S v (at B (after (length B) i)) w round.accepted (subst (λ x. x < length S) e (round.inside i h)) (subst (λ x. IsBorderStep S Left x (at B (after (length B) i))) e (round.steps i h)) step
+    next i v w h e step = left_step_once S v (at B (after (length B) i)) w round.accepted (subst (λ x. x < length S) e (round.inside i h)) (subst (λ x. IsBorderStep S Left x (at B (after (length B) i))) e (round.steps i h)) step
 
 pub cycle_of : (S : List Point) (m M : ℕ) (A B : List ℕ) → AreAccepted S → AreEnds S true m M → AreEnds S false M m → HasWalked S true m M [] A → HasWalked S false M m A B → IsBorderCycle S B
 cycle_of S m M A B accepted there back (C, some_c, a, up) (D, some_d, b, down) =

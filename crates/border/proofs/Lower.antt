@@ -1,6 +1,6 @@
 -- Steps along the lower border, from a point to one that comes after it by x, then y. The points are given by a function,
 -- so that the same holds of the upper border, whose points are turned by half a turn.
-use Rattle.std.proofs.Common.{◌≡◌, ◌≢◌, ℕ, zero, suc, ◌+◌, ◌<◌, ◌≤◌, ℤ, pos, ◌-ℤ◌, neg_ℤ, ◌<ℤ◌, ◌≤ℤ◌, ◌⊎◌, inl, inr, arith, sym, ◌∙◌, ap, subst, refl}
+use Rattle.std.proofs.Common.{◌≡◌, ◌≢◌, ℕ, zero, suc, ◌+◌, ◌<◌, ◌≤◌, ℤ, pos, ◌-ℤ◌, ◌<ℤ◌, ◌≤ℤ◌, ◌⊎◌, inl, inr, arith, sym, ap, subst, refl}
 use Rattle.std.proofs.lemmas.Int.{ints}
 use Rattle.std.proofs.Math.IntN.{*ℤ_comm}
 use Rattle.plane.specs.declared.coordinates.Point.{Point}
@@ -10,8 +10,11 @@ use Rattle.number_laws.proofs.Crosses.{cross}
 use Rattle.number_laws.proofs.Signs.{by_sign, zero_left}
 use Rattle.plane_laws.specs.Order.{IsBefore}
 use Rattle.plane_laws.proofs.Steps.{turn_weak, turn_first}
-use Rattle.plane_laws.proofs.Orientations.{ahead, in_line}
-use Rattle.plane_laws.proofs.Between.{by_order}
+use Rattle.plane_laws.proofs.Orientations.{ahead, in_line, area_steps}
+use Rattle.plane_laws.proofs.Between.{by_order, area_is_cross}
+use Rattle.number_laws.proofs.Naturals.{below_or_last}
+use Rattle.plane_laws.proofs.Order.{before_trans}
+use Rattle.plane.proofs.laws.Area.{area_second, area_swap}
 
 -- the step from v to w leads on, has all points on its left or on its line, and none between its ends
 pub record IsLower (P : ℕ → Point) (n v w : ℕ) : Type 0 where
@@ -30,38 +33,17 @@ pub not_self : (p q : Point) → p.x ≡ q.x → p.y ≡ q.y → IsBefore p q �
 not_self p q ex ey (inl h) = omega (arith, ints)
 not_self p q ex ey (inr h) = omega (arith, ints, h.1)
 
-pub before_on : (p q r : Point) → IsBefore p q → IsBefore q r → IsBefore p r
-before_on p q r (inl a) (inl b) = inl (omega (arith, ints))
-before_on p q r (inl a) (inr b) = inl (omega (arith, ints, b.0))
-before_on p q r (inr a) (inl b) = inl (omega (arith, ints, a.0))
-before_on p q r (inr a) (inr b) = inr (a.0 ∙ b.0, omega (arith, ints, a.1, b.1))
-
--- the area by the steps from p to q and from q to r
-steps : (p q r : Point) → area p q r ≡ cross (q.x -ℤ p.x) (q.y -ℤ p.y) (r.x -ℤ q.x) (r.y -ℤ q.y)
-unfolding area
-steps p q r =
-    omega (arith, ints, mul_differences q.x p.x r.y p.y, mul_differences q.y p.y r.x p.x, mul_differences q.x p.x r.y q.y, mul_differences q.y p.y r.x q.x)
-
--- the area by the steps from p to q and from p to r
-from_first : (p q r : Point) → area p q r ≡ cross (q.x -ℤ p.x) (q.y -ℤ p.y) (r.x -ℤ p.x) (r.y -ℤ p.y)
-unfolding area
-from_first p q r = refl
-
--- the area by the steps from r to p and from p to q
+-- the area by the area_steps from r to p and from p to q
 to_first : (p q r : Point) → area p q r ≡ cross (p.x -ℤ r.x) (p.y -ℤ r.y) (q.x -ℤ p.x) (q.y -ℤ p.y)
 unfolding area
 to_first p q r =
     omega (arith, ints, mul_differences q.x p.x r.y p.y, mul_differences q.y p.y r.x p.x, mul_differences p.x r.x q.y p.y, mul_differences p.y r.y q.x p.x, *ℤ_comm q.x r.y, *ℤ_comm q.x p.y, *ℤ_comm p.x r.y, *ℤ_comm p.x p.y, *ℤ_comm q.y r.x, *ℤ_comm q.y p.x, *ℤ_comm p.y r.x, *ℤ_comm r.x q.y)
 
--- the area by the steps from r to q and from p to q
+-- the area by the area_steps from r to q and from p to q
 to_second : (p q r : Point) → area p q r ≡ cross (q.x -ℤ r.x) (q.y -ℤ r.y) (q.x -ℤ p.x) (q.y -ℤ p.y)
 unfolding area
 to_second p q r =
     omega (arith, ints, mul_differences q.x p.x r.y p.y, mul_differences q.y p.y r.x p.x, mul_differences q.x r.x q.y p.y, mul_differences q.y r.y q.x p.x, *ℤ_comm q.x r.y, *ℤ_comm q.x p.y, *ℤ_comm p.x r.y, *ℤ_comm p.x p.y, *ℤ_comm q.y r.x, *ℤ_comm q.y p.x, *ℤ_comm p.y r.x, *ℤ_comm r.x q.y, *ℤ_comm q.x q.y, *ℤ_comm r.x p.y, *ℤ_comm r.y q.x, *ℤ_comm p.x q.y)
-
-pub swapped : (p q r : Point) → area p r q ≡ neg_ℤ (area p q r)
-unfolding area
-swapped p q r = omega (arith, ints, *ℤ_comm (q.x -ℤ p.x) (r.y -ℤ p.y), *ℤ_comm (q.y -ℤ p.y) (r.x -ℤ p.x))
 
 -- one lower step doesn't begin within another
 pub no_overlap : (P : ℕ → Point) (n v w a b : ℕ) → IsLower P n v w → IsLower P n a b → v < n → a < n → IsBefore (P v) (P a) → IsBefore (P a) (P w) → ⊥
@@ -69,8 +51,8 @@ no_overlap P n v w a b first second hv ha va aw =
     let g = second.left v hv in let h = second.left w first.within in
     let t = turn_weak ((P a).x -ℤ (P v).x) ((P a).y -ℤ (P v).y) ((P b).x -ℤ (P a).x) ((P b).y -ℤ (P a).y) ((P w).x -ℤ (P a).x) ((P w).y -ℤ (P a).y)
     (ahead (P v) (P a) va) (ahead (P a) (P b) second.leads) (ahead (P a) (P w) aw)
-    (subst (λ z. pos 0 ≤ℤ z) (to_first (P a) (P b) (P v)) g) (subst (λ z. pos 0 ≤ℤ z) (from_first (P a) (P b) (P w)) h) in
-    let e = steps (P v) (P a) (P w) in let f = swapped (P v) (P a) (P w) in
+    (subst (λ z. pos 0 ≤ℤ z) (to_first (P a) (P b) (P v)) g) (subst (λ z. pos 0 ≤ℤ z) (area_is_cross (P a) (P b) (P w)) h) in
+    let e = area_steps (P v) (P a) (P w) in let f = area_swap (P v) (P a) (P w) in
     first.clear a ha va aw (zero (area (P v) (P w) (P a)) (first.left a ha) (omega (arith, ints)))
   where
     zero : (z : ℤ) → pos 0 ≤ℤ z → z ≤ℤ pos 0 → z ≡ pos 0
@@ -83,29 +65,23 @@ record IsBest (P : ℕ → Point) (n v k w : ℕ) : Type 0 where
   left : (p : ℕ) → p < k → IsBefore (P v) (P p) → pos 0 ≤ℤ area (P v) (P w) (P p)
   near : (p : ℕ) → p < k → IsBefore (P v) (P p) → IsBefore (P p) (P w) → area (P v) (P w) (P p) ≢ pos 0
 
-below_next : (p k : ℕ) → p < k + 1 → (p < k) ⊎ (p ≡ k)
-below_next p k h = grind arith
-
 keep : (P : ℕ → Point) (n v k w : ℕ) → IsBest P n v k w → (IsBefore (P v) (P k) → pos 0 ≤ℤ area (P v) (P w) (P k)) → (IsBefore (P v) (P k) → IsBefore (P k) (P w) → area (P v) (P w) (P k) ≢ pos 0) → IsBest P n v (k + 1) w
 keep P n v k w so left near = record {
   within = so.within;
   leads = so.leads;
-  left = λ p h a. elim (below_next p k h) [ inl l ↦ so.left p l a | inr e ↦ (let Q : ℕ → Type 0 = λ i. IsBefore (P v) (P i) → pos 0 ≤ℤ area (P v) (P w) (P i) in subst Q (sym e) left a) ];
-  near = λ p h a b. elim (below_next p k h) [ inl l ↦ so.near p l a b | inr e ↦ (let Q : ℕ → Type 0 = λ i. IsBefore (P v) (P i) → IsBefore (P i) (P w) → area (P v) (P w) (P i) ≢ pos 0 in subst Q (sym e) near a b) ];
+  left = λ p h a. elim (below_or_last p k h) [ inl l ↦ so.left p l a | inr e ↦ (let Q : ℕ → Type 0 = λ i. IsBefore (P v) (P i) → pos 0 ≤ℤ area (P v) (P w) (P i) in subst Q (sym e) left a) ];
+  near = λ p h a b. elim (below_or_last p k h) [ inl l ↦ so.near p l a b | inr e ↦ (let Q : ℕ → Type 0 = λ i. IsBefore (P v) (P i) → IsBefore (P i) (P w) → area (P v) (P w) (P i) ≢ pos 0 in subst Q (sym e) near a b) ];
 }
-
-pub flat : (p q : Point) → area p q q ≡ pos 0
-flat p q = let e = swapped p q q in omega (arith, ints)
 
 turn_off : (v k w p : Point) → IsBefore v k → IsBefore v w → IsBefore v p → area v w k ≤ℤ pos 0 → pos 0 ≤ℤ area v w p → pos 0 ≤ℤ area v k p
 turn_off v k w p vk vw vp h g =
-    let e = swapped v w k in let a = from_first v k w in let b = from_first v w p in let c = from_first v k p in
+    let e = area_swap v w k in let a = area_is_cross v k w in let b = area_is_cross v w p in let c = area_is_cross v k p in
     let t = turn_weak (k.x -ℤ v.x) (k.y -ℤ v.y) (w.x -ℤ v.x) (w.y -ℤ v.y) (p.x -ℤ v.x) (p.y -ℤ v.y) (ahead v k vk) (ahead v w vw) (ahead v p vp) (subst (λ z. pos 0 ≤ℤ z) a (omega (arith, ints))) (subst (λ z. pos 0 ≤ℤ z) b g) in
     subst (λ z. pos 0 ≤ℤ z) (sym c) t
 
 turn_off_strict : (v k w p : Point) → IsBefore v k → IsBefore v w → IsBefore v p → area v w k <ℤ pos 0 → pos 0 ≤ℤ area v w p → pos 0 <ℤ area v k p
 turn_off_strict v k w p vk vw vp h g =
-    let e = swapped v w k in let a = from_first v k w in let b = from_first v w p in let c = from_first v k p in
+    let e = area_swap v w k in let a = area_is_cross v k w in let b = area_is_cross v w p in let c = area_is_cross v k p in
     let t = turn_first (k.x -ℤ v.x) (k.y -ℤ v.y) (w.x -ℤ v.x) (w.y -ℤ v.y) (p.x -ℤ v.x) (p.y -ℤ v.y) (ahead v k vk) (ahead v w vw) (ahead v p vp) (subst (λ z. pos 0 <ℤ z) a (omega (arith, ints))) (subst (λ z. pos 0 ≤ℤ z) b g) in
     subst (λ z. pos 0 <ℤ z) (sym c) t
 
@@ -113,11 +89,11 @@ take : (P : ℕ → Point) (n v k w : ℕ) → IsBest P n v k w → k < n → Is
 take P n v k w so hk vk better = record {
   within = hk;
   leads = vk;
-  left = λ p h a. elim (below_next p k h) [
+  left = λ p h a. elim (below_or_last p k h) [
     | inl l ↦ turn_off (P v) (P k) (P w) (P p) vk so.leads a (weak better) (so.left p l a)
-    | inr e ↦ (let z = flat (P v) (P k) in let f : area (P v) (P k) (P p) ≡ area (P v) (P k) (P k) = ap (λ i. area (P v) (P k) (P i)) e in omega (arith, ints))
+    | inr e ↦ (let z = area_second (P v) (P k) in let f : area (P v) (P k) (P p) ≡ area (P v) (P k) (P k) = ap (λ i. area (P v) (P k) (P i)) e in omega (arith, ints))
   ];
-  near = λ p h a b. elim (below_next p k h) [
+  near = λ p h a b. elim (below_or_last p k h) [
     | inl l ↦ closer p l a b better
     | inr e ↦ absurd (let Q : ℕ → Type 0 = λ i. IsBefore (P i) (P k) in not_self (P k) (P k) refl refl (subst Q e b))
   ];
@@ -130,8 +106,8 @@ take P n v k w so hk vk better = record {
     closer : (p : ℕ) → p < k → IsBefore (P v) (P p) → IsBefore (P p) (P k) → (area (P v) (P w) (P k) <ℤ pos 0) ⊎ ((area (P v) (P w) (P k) ≡ pos 0) × IsBefore (P k) (P w)) → area (P v) (P k) (P p) ≢ pos 0
     closer p l a b (inl h) z = let t = turn_off_strict (P v) (P k) (P w) (P p) vk so.leads a h (so.left p l a) in omega (arith, ints)
     closer p l a b (inr h) z =
-        let e = swapped (P v) (P w) (P k) in
-        so.near p l a (before_on (P p) (P k) (P w) b h.1) (in_line (P v) (P k) (P w) (P p) vk (omega (arith, ints, h.0)) z)
+        let e = area_swap (P v) (P w) (P k) in
+        so.near p l a (before_trans (P p) (P k) (P w) b h.1) (in_line (P v) (P k) (P w) (P p) vk (omega (arith, ints, h.0)) z)
 
 -- there is a best end where some point comes after v
 best : (P : ℕ → Point) (n v m k : ℕ) → m < n → IsBefore (P v) (P m) → k ≤ n → (w : ℕ) × IsBest P n v k w
@@ -173,7 +149,7 @@ leads_on P n v m hm hv vm start =
     behind : (w k : ℕ) → k < n → IsBefore (P v) (P w) → w < n → IsBefore (P k) (P v) → ((p : ℕ) → p < n → ¬ IsBefore (P p) (P v)) ⊎ ((u : ℕ) × IsLower P n u v) → pos 0 ≤ℤ area (P v) (P w) (P k)
     behind w k h vw hw kv (inl none) = absurd (none k h kv)
     behind w k h vw hw kv (inr (u, low)) =
-        let a = to_second (P u) (P v) (P k) in let b = steps (P u) (P v) (P w) in let c = to_first (P v) (P w) (P k) in
+        let a = to_second (P u) (P v) (P k) in let b = area_steps (P u) (P v) (P w) in let c = to_first (P v) (P w) (P k) in
         let t = turn_weak ((P v).x -ℤ (P k).x) ((P v).y -ℤ (P k).y) ((P v).x -ℤ (P u).x) ((P v).y -ℤ (P u).y) ((P w).x -ℤ (P v).x) ((P w).y -ℤ (P v).y)
         (ahead (P k) (P v) kv) (ahead (P u) (P v) low.leads) (ahead (P v) (P w) vw)
         (subst (λ z. pos 0 ≤ℤ z) a (low.left k h)) (subst (λ z. pos 0 ≤ℤ z) b (low.left w hw)) in

@@ -15,8 +15,10 @@ use Rattle.plane_laws.specs.Order.{IsBefore}
 use Rattle.plane_laws.proofs.Between.{by_order}
 use Rattle.border.specs.Cycle.{at}
 use Rattle.border.specs.Walk.{seen, AreEnds, IsTrail, CanGoOn}
-use Rattle.border.proofs.Lower.{not_back, not_self, before_on, no_overlap, leads_on}
-use Rattle.border.proofs.Turned.{step_of, lower_of, same_step, same_place}
+use Rattle.border.proofs.Lower.{not_back, not_self, no_overlap, leads_on}
+use Rattle.border.proofs.Turned.{step_of, lower_of, same_place}
+use Rattle.plane_laws.proofs.Order.{before_trans}
+use Rattle.plane.proofs.laws.Border.{left_step_once}
 
 pub trail_begins : (S : List Point) (b : Bool) (v : ℕ) → IsTrail S b v (v ∷ [])
 trail_begins S b v = record { begins = refl; steps = λ j h. absurd (omega arith); rises = λ j h. absurd (omega arith) }
@@ -45,7 +47,7 @@ pub trail_rises : (S : List Point) (b : Bool) (from : ℕ) (D : List ℕ) → Is
 trail_rises S b from D so zero i h = let e : i + 1 + 0 ≡ i + 1 = omega arith in subst (λ j. IsBefore (seen S b (at D i)) (seen S b (at D j))) (sym e) (so.rises i (omega arith))
 trail_rises S b from D so (suc m) i h =
     let e : i + 1 + suc m ≡ i + 1 + m + 1 = omega arith in
-    subst (λ j. IsBefore (seen S b (at D i)) (seen S b (at D j))) (sym e) (before_on (seen S b (at D i)) (seen S b (at D (i + 1 + m))) (seen S b (at D (i + 1 + m + 1))) (trail_rises S b from D so m i (omega arith)) (so.rises (i + 1 + m) (omega arith)))
+    subst (λ j. IsBefore (seen S b (at D i)) (seen S b (at D j))) (sym e) (before_trans (seen S b (at D i)) (seen S b (at D (i + 1 + m))) (seen S b (at D (i + 1 + m + 1))) (trail_rises S b from D so m i (omega arith)) (so.rises (i + 1 + m) (omega arith)))
 
 pub trail_order : (S : List Point) (b : Bool) (from : ℕ) (D : List ℕ) → IsTrail S b from D → (i j : ℕ) → i < j → j < length D → IsBefore (seen S b (at D i)) (seen S b (at D j))
 trail_order S b from D so i j ij h = let e : i + 1 + (j - i - 1) ≡ j = omega arith in subst (λ k. IsBefore (seen S b (at D i)) (seen S b (at D k))) e (trail_rises S b from D so (j - i - 1) i (omega arith))
@@ -72,7 +74,7 @@ trail_few S b from D so h = length-le_from_distinct_below D (length S) (IsDistin
 pub go_on : (S : List Point) (b : Bool) (v : ℕ) → AreAccepted S → v < length S → CanGoOn S b v → (w : ℕ) → IsBorderStep S Left v w → IsBefore (seen S b v) (seen S b w)
 go_on S b v accepted hv ((m, hm, vm), start) w step =
     let (x, low) = leads_on (seen S b) (length S) v m hm hv vm (elim start [ inl none ↦ inl none | inr h ↦ (let (u, s, l) = h in inr (u, lower_of S b u v s l)) ]) in
-    subst (λ y. IsBefore (seen S b v) (seen S b y)) (same_step S v x w accepted hv (step_of S b v x low) step) low.leads
+    subst (λ y. IsBefore (seen S b v) (seen S b y)) (left_step_once S v x w accepted hv (step_of S b v x low) step) low.leads
 
 pub must_go_on : (S : List Point) (b : Bool) (v : ℕ) → v < length S → CanGoOn S b v → ¬ ((w : ℕ) → ¬ IsBorderStep S Left v w)
 must_go_on S b v hv ((m, hm, vm), start) none =

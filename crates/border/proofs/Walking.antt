@@ -1,6 +1,5 @@
 -- The steps of a walk in the code.
-use Rattle.std.proofs.Common.{◌≡◌, ◌≢◌, ℕ, ◌+◌, ◌<◌, ◌≤◌, Bool, List, [], ◌∷◌, ◌++◌, length, Option, Some, None, IsSome, ◌⊎◌, inl, inr, arith, rules, sym, ◌∙◌, ap, subst, refl, append_assoc}
-use Rattle.std.proofs.lemmas.Bool.{cases_lt}
+use Rattle.std.proofs.Common.{◌≡◌, ◌≢◌, ℕ, ◌+◌, ◌<◌, ◌≤◌, Bool, List, [], ◌∷◌, ◌++◌, length, Option, Some, None, IsSome, inl, inr, arith, rules, sym, ◌∙◌, ap, subst, refl, append_assoc}
 use Rattle.std.proofs.lemmas.List.{length_push, append-nil}
 use Rattle.plane.specs.declared.coordinates.Point.{Point}
 use Rattle.plane.specs.declared.coordinates.Turn.TheVariants.{Left}
@@ -9,9 +8,10 @@ use Rattle.plane.specs.Accepted.{AreAccepted}
 use Rattle.plane_laws.specs.Order.{IsBefore}
 use Rattle.plane_laws.proofs.Between.{by_order}
 use Rattle.border.specs.Walk.{seen, AreEnds, IsTrail, CanGoOn, HasWalked, IsWalking}
-use Rattle.border.proofs.Lower.{before_on}
+use Rattle.plane_laws.proofs.Order.{before_trans}
 use Rattle.border.proofs.Turned.{same_place}
 use Rattle.border.proofs.Trails.{trail_begins, trail_more, trail_few, trail_can, ends_differ, must_go_on}
+use Rattle.number_laws.proofs.Naturals.{equal_or_not, below_or_last}
 
 pub some_step : (S : List Point) (b : Bool) (v : ℕ) (o : Option ℕ) → v < length S → CanGoOn S b v → IsStepOrNone S Left v o → IsSome o
 some_step S b v (Some w) hv can h = search rules
@@ -41,19 +41,13 @@ walk_ends S b from to old items v k ends h (C, is, len, trail, hv, ne) = omega (
 abbrev pub IsFore : List Point → Bool → (best k : ℕ) → Type 0
 IsFore S b best k = (best < length S) × ((j : ℕ) → j < k → j ≢ best → IsBefore (seen S b best) (seen S b j))
 
-below_next : (p k : ℕ) → p < k + 1 → (p < k) ⊎ (p ≡ k)
-below_next p k h = grind arith
-
-same_number : (m n : ℕ) → (m ≡ n) ⊎ (m ≢ n)
-same_number m n = elim (cases_lt m n) [ inl h ↦ inr (omega arith) | inr h ↦ elim (cases_lt n m) [ inl k ↦ inr (omega arith) | inr k ↦ inl (omega arith) ] ]
-
 pub fore_more : (S : List Point) (b : Bool) (best k : ℕ) → k < length S → IsFore S b best k → IsBefore (seen S b k) (seen S b best) → IsFore S b k (k + 1)
 fore_more S b best k hk so first = (
   hk,
-  λ j h ne. elim (below_next j k h) [
-    | inl l ↦ elim (same_number j best) [
+  λ j h ne. elim (below_or_last j k h) [
+    | inl l ↦ elim (equal_or_not j best) [
       | inl e ↦ subst (λ x. IsBefore (seen S b k) (seen S b x)) (sym e) first
-      | inr other ↦ before_on (seen S b k) (seen S b best) (seen S b j) first (so.1 j l other)
+      | inr other ↦ before_trans (seen S b k) (seen S b best) (seen S b j) first (so.1 j l other)
     ]
     | inr e ↦ absurd (ne e)
   ],
@@ -62,7 +56,7 @@ fore_more S b best k hk so first = (
 pub fore_kept : (S : List Point) (b : Bool) (best k : ℕ) → AreAccepted S → k < length S → IsFore S b best k → ¬ IsBefore (seen S b k) (seen S b best) → IsFore S b best (k + 1)
 fore_kept S b best k accepted hk so later = (
   so.0,
-  λ j h ne. elim (below_next j k h) [
+  λ j h ne. elim (below_or_last j k h) [
     | inl l ↦ so.1 j l ne
     | inr e ↦ subst (λ x. IsBefore (seen S b best) (seen S b x)) (sym e) (by_order (seen S b best) (seen S b k) (λ a. a) (λ ex ey. absurd (ne (e ∙ sym (same_place S b best k accepted so.0 hk ex ey)))) (λ a. absurd (later a)))
   ],

@@ -4,8 +4,8 @@ use Rattle.std.proofs.lemmas.Int.{ints}
 use Rattle.std.proofs.Math.IntN.{*ℤ_comm}
 use Rattle.plane.specs.declared.coordinates.Point.{Point}
 use Rattle.plane.specs.Geometry.{area, scalar, LiesBetween}
-use Rattle.number_laws.proofs.Products.{mul_add, mul_sub, add_mul, mul_assoc, zero_factor}
-use Rattle.number_laws.proofs.Signs.{positive_positive, positive_negative, negative_negative, zero_left, zero_right, difference_zero, by_sign, cancel_strict}
+use Rattle.number_laws.proofs.Products.{mul_add, mul_sub, add_mul, mul_assoc}
+use Rattle.number_laws.proofs.Signs.{positive_positive, positive_negative, negative_negative, zero_left, zero_right, difference_zero, by_sign, cancel_strict, cancel_zero}
 use Rattle.plane.proofs.laws.Area.{area_back}
 use Rattle.plane.proofs.laws.Line.{same_point}
 
@@ -38,9 +38,6 @@ scaled_step ux uy vx vy k n line ek en =
 elsewhere : (p q : Point) → q ≢ p → ¬ ((q.x -ℤ p.x ≡ pos 0) × (q.y -ℤ p.y ≡ pos 0))
 elsewhere p q apart h = apart (same_point q p (difference_zero q.x p.x h.0) (difference_zero q.y p.y h.1))
 
-factor_zero : (n a : ℤ) → pos 0 <ℤ n → n *ℤ a ≡ pos 0 → a ≡ pos 0
-factor_zero n a hn h = elim (zero_factor n a h) [ inl z ↦ absurd (omega (arith, ints)) | inr z ↦ z ]
-
 -- points in line with p that it isn't between lie in one direction from it
 pub one_direction : (p q m : Point) → q ≢ p → m ≢ p → area p q m ≡ pos 0 → ¬ LiesBetween p q m → IsAlong (scalar p q m) (scalar p m m) p q m
 unfolding area scalar
@@ -53,7 +50,7 @@ one_direction p q m hq hm line off =
     let long : pos 0 <ℤ n = positive_square vx vy (elsewhere p m hm) in
     record {
       k_positive = by_sign k (λ h. h)
-          (λ z. absurd (elsewhere p q hq (factor_zero n ux long (sym across ∙ zero_left k vx z), factor_zero n uy long (sym upward ∙ zero_left k vy z))))
+          (λ z. absurd (elsewhere p q hq (cancel_zero n ux long (sym across ∙ zero_left k vx z), cancel_zero n uy long (sym upward ∙ zero_left k vy z))))
           (λ h. absurd (off (let e = area_back p q m in omega (arith, ints), h)));
       n_positive = long;
       across = across;
@@ -96,5 +93,5 @@ left_along k n p q m r h = same_positive k n (area p m r) (area p q r) h.k_posit
 pub opposite_along : (k n : ℤ) (p q m r : Point) → IsAlong k n p q m → LiesBetween p m r → LiesBetween p q r
 opposite_along k n p q m r h on =
     let flat : area p m r ≡ pos 0 = (let e = area_back p m r in omega (arith, ints, on.0)) in
-    let line : area p q r ≡ pos 0 = factor_zero n (area p q r) h.n_positive (sym (along_area k n p q m r h) ∙ zero_right k (area p m r) flat) in
+    let line : area p q r ≡ pos 0 = cancel_zero n (area p q r) h.n_positive (sym (along_area k n p q m r h) ∙ zero_right k (area p m r) flat) in
     (let e = area_back p q r in omega (arith, ints), same_negative k n (scalar p m r) (scalar p q r) h.k_positive h.n_positive (along_scalar k n p q m r h) on.1)

@@ -11,20 +11,15 @@ use Rattle.plane.specs.Geometry.{IsInner, IsBorderPair}
 use Rattle.partition_defs.specs.Partition.{HasEnds, Joins, AreWithin, MeetsNeedsAt}
 use Rattle.cp_judge.specs.Ends.{IsOtherEnd, AreEnds, count_at, AreOthers, MeetsNeedsAmong}
 use Rattle.cp_judge.proofs.Marks.{end_in}
-use Rattle.cp_judge.proofs.Steps.{border_back}
-
-contained : (K : List Pair) (p r : ℕ) (j : Joins K p r) → Contains K j.1
-contained K p r j = (j.0, j.2, j.3)
-
-joined : (K : List Pair) (e : Pair) (p r : ℕ) → Contains K e → HasEnds e p r → Joins K p r
-joined K e p r c h = (c.0, e, c.1, c.2, h)
+use Rattle.plane.proofs.laws.Border.{border_back}
+use Rattle.partition_defs.proofs.laws.Joined.{joins_pair, joins_from}
 
 joins_old : (K : List Pair) (e : Pair) (p r : ℕ) → Joins K p r → Joins (K ++ e ∷ []) p r
-joins_old K e p r j = joined (K ++ e ∷ []) j.1 p r (Contains-append_left K (e ∷ []) j.1 (contained K p r j)) j.4
+joins_old K e p r j = joins_from (K ++ e ∷ []) j.1 p r (Contains-append_left K (e ∷ []) j.1 (joins_pair K p r j)) j.4
 
 joins_push : (K : List Pair) (e : Pair) (p r : ℕ) → Joins (K ++ e ∷ []) p r → Joins K p r ⊎ HasEnds e p r
-joins_push K e p r j = elim (Contains-push_cases K e j.1 (contained (K ++ e ∷ []) p r j)) [
-  | inl c ↦ inl (joined K j.1 p r c j.4)
+joins_push K e p r j = elim (Contains-push_cases K e j.1 (joins_pair (K ++ e ∷ []) p r j)) [
+  | inl c ↦ inl (joins_from K j.1 p r c j.4)
   | inr same ↦ inr (subst (λ x. HasEnds x p r) (sym same) j.4)
 ]
 
@@ -33,7 +28,7 @@ ends_push : (K : List Pair) (e : Pair) (p r : ℕ) (E : List ℕ) → IsOtherEnd
 ends_push K e p r E other ends s = (
   λ at. elim (Contains-push_cases E r s at) [
     | inl old ↦ joins_old K e p s ((ends s).0 old)
-    | inr same ↦ joined (K ++ e ∷ []) e p s (Contains-push K e) ((other s).1 (sym same))
+    | inr same ↦ joins_from (K ++ e ∷ []) e p s (Contains-push K e) ((other s).1 (sym same))
   ],
   λ j. elim (joins_push K e p s j) [
     | inl old ↦ Contains-append_left E (r ∷ []) s ((ends s).1 old)
@@ -96,7 +91,7 @@ two_ends : (e : Pair) (p r : ℕ) → r ≡ p → ¬ HasEnds e p r
 two_ends e p r same h = let o : e.lo < e.hi = e.ordered in ⊎_elim (λ u. let a = u.0 in let b = u.1 in omega arith) (λ u. let a = u.0 in let b = u.1 in omega arith) h
 
 end_elsewhere : (S : List Point) (K : List Pair) (p r : ℕ) → AreWithin S K → Joins K p r → (r < length S) × (r ≢ p)
-end_elsewhere S K p r within j = (end_in j.1 p r (length S) j.4 (within j.1 (contained K p r j)), λ same. two_ends j.1 p r same j.4)
+end_elsewhere S K p r within j = (end_in j.1 p r (length S) j.4 (within j.1 (joins_pair K p r j)), λ same. two_ends j.1 p r same j.4)
 
 -- the ends at p are other points
 pub others_of_ends : (S : List Point) (K : List Pair) (p : ℕ) (E : List ℕ) → AreWithin S K → AreEnds K p E → AreOthers S p E

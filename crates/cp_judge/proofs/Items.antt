@@ -7,10 +7,12 @@ use Rattle.std.proofs.Math.IntN.{zero-*ℤ, *ℤ_comm}
 use Rattle.plane.specs.declared.coordinates.Point.{Point}
 use Rattle.plane.specs.declared.segment.Pair.{Pair}
 use Rattle.plane.specs.First.{IsLeast}
-use Rattle.plane.specs.Geometry.{area, point, IsBetween, IsClear, AreCrossing, AreOpposite}
+use Rattle.plane.specs.Geometry.{point, IsBetween, IsClear, AreCrossing}
 use Rattle.partition_defs.specs.Partition.{ArePlane}
 use Rattle.partition_defs.specs.Triangulation.{AreDistinct}
 use Rattle.cp_judge.specs.Violation.{StandsAt, IsRepeatedAt, IsNotClear, AreCrossingAt, IsCrossing}
+use Rattle.plane.proofs.laws.Area.{area_first}
+use Rattle.plane.proofs.laws.Opposite.{not_opposite_zero}
 
 pub refused : (b : Bool) (P : Type 0) → b ≡ false → (P → b ≡ true) → ¬ P
 refused b P e f p = false≢true (sym e ∙ f p)
@@ -52,15 +54,8 @@ none_times a b =
 none_less : (a b : ℤ) → a ≡ pos 0 → b ≡ pos 0 → a -ℤ b ≡ pos 0
 none_less a b h k = omega (arith, ints)
 
-back_to_first : (p q : Point) → area p q p ≡ pos 0
-unfolding area
-back_to_first p q = none_less _ _ (none_times (q.x -ℤ p.x) p.y) (none_times (q.y -ℤ p.y) p.x)
-
-none_opposite : (y z : ℤ) → y ≡ pos 0 → ¬ AreOpposite y z
-none_opposite y z e h = ⊎_elim (λ u. omega (arith, ints, u.0)) (λ u. omega (arith, ints, u.0)) h
-
 pub crosses_itself : (S : List Point) (a b : ℕ) → ¬ AreCrossing S a b a b
-crosses_itself S a b h = none_opposite _ _ (back_to_first (point S a) (point S b)) h.0
+crosses_itself S a b h = not_opposite_zero _ _ (area_first (point S a) (point S b)) h.0
 
 same_position : (S : List Point) (K : List Pair) (k m : ℕ) (e f : Pair) → k ≡ m → StandsAt K k e → StandsAt K m f
     → ¬ AreCrossing S e.lo e.hi f.lo f.hi

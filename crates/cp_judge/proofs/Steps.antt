@@ -10,36 +10,14 @@ use Rattle.plane.specs.First.{ComesBefore}
 use Rattle.plane.specs.Accepted.{AreAccepted}
 use Rattle.plane.specs.Geometry.{IsBetween, IsBorderPair}
 use Rattle.plane.specs.Hull.{IsBorderStep}
-use Rattle.plane.proofs.laws.Border.{reaches, stays, leaves, not_all_in_line, border_of_left, clear_back}
+use Rattle.plane.proofs.laws.Border.{reaches, stays, leaves, not_all_in_line, border_of_left, clear_back, border_back}
 use Rattle.partition_defs.specs.Partition.{Joins, HasBorder}
 use Rattle.cp_judge.specs.Violation.{IsMissing, IsMissingBorder, IsMissingStep, IsMissingBelow, IsLesser}
-
-differ_not : (S : List Point) (side : Turn) (v w u : ℕ) → AreAccepted S → side ≢ Straight → v < length S
-    → IsBorderStep S side v w → IsBorderStep S side v u → ¬ (w ≢ u)
-differ_not S side v w u accepted bent hv to also ne =
-    let off : ¬ IsBetween S v w u = λ on.
-    not_all_in_line S v w accepted hv to.within (λ e. to.apart (sym e))
-    (λ x hx. leaves S side v w u x bent to hx on (stays S side v u x also hx)) in
-    stays S side v u w also to.within (reaches S side v w u accepted.apart bent to hv also.within also.apart (λ e. ne (sym e)) off)
-
-step_once : (S : List Point) (side : Turn) (v w u : ℕ) → AreAccepted S → side ≢ Straight → v < length S
-    → IsBorderStep S side v w → IsBorderStep S side v u → w ≡ u
-step_once S side v w u accepted bent hv to also =
-    ⊎_elim (λ e. e)
-    (λ rest. absurd (differ_not S side v w u accepted bent hv to also (λ e. ⊎_elim (λ l. omega arith) (λ l. omega arith) rest)))
-    (cases_order w u)
-
-left_bent : Left ≢ Straight
-left_bent e = cc
-
-joins_back : (K : List Pair) (i j : ℕ) → Joins K i j → Joins K j i
-joins_back K i j h = (h.0, h.1, h.2, h.3, ⊎_elim (λ u. inr u) (λ u. inl u) h.4)
-
-pub border_back : (S : List Point) (i j : ℕ) → IsBorderPair S i j → IsBorderPair S j i
-border_back S i j h = (clear_back S i j h.0, ⊎_elim (λ u. inr u) (λ u. inl u) h.1)
+use Rattle.partition_defs.proofs.laws.Joined.{join_back}
+use Rattle.plane.proofs.laws.Border.{left_step_once}
 
 missing_back : (S : List Point) (K : List Pair) (i j : ℕ) → IsMissing S K i j → IsMissing S K j i
-missing_back S K i j h = (border_back S i j h.0, λ u. h.1 (joins_back K j i u))
+missing_back S K i j h = (border_back S i j h.0, λ u. h.1 (join_back K j i u))
 
 missing_ends : (S : List Point) (K : List Pair) (v w lo hi : ℕ) → lo ≡ min v w → hi ≡ max v w → IsMissing S K v w → IsMissing S K lo hi
 missing_ends S K v w lo hi el eh h =
@@ -56,14 +34,14 @@ step_missing S K v w e accepted hv step absent lo hi =
     let within : e.hi < length S = omega arith in (
       within,
       missing_ends S K v w e.lo e.hi lo hi (border_of_left S v w step, absent),
-      λ u also. let s : w ≡ u = step_once S Left v w u accepted left_bent hv step also in
+      λ u also. let s : w ≡ u = left_step_once S v w u accepted hv step also in
           (lo ∙ ap (λ x. min v x) s, hi ∙ ap (λ x. max v x) s),
     )
 
 pub step_joined : (S : List Point) (K : List Pair) (v w : ℕ) → AreAccepted S → v < length S → IsBorderStep S Left v w
     → Joins K v w → IsMissingStep S K v None
 step_joined S K v w accepted hv step h =
-    λ u also. let P : ℕ → Type 0 = λ x. Joins K v x in subst P (step_once S Left v w u accepted left_bent hv step also) h
+    λ u also. let P : ℕ → Type 0 = λ x. Joins K v x in subst P (left_step_once S v w u accepted hv step also) h
 
 pub later_through : (k l i j m n : ℕ) → ¬ ComesBefore k l i j → ¬ ComesBefore i j m n → ¬ ComesBefore k l m n
 later_through k l i j m n h g (inl o) =
@@ -150,7 +128,7 @@ pub missing_found : (S : List Point) (K : List Pair) (n : ℕ) (o : Option Pair)
 missing_found S K n None whole h = λ i j l m pair.
     let hi : i < n = omega arith in
     let hj : j < n = omega arith in
-    ⊎_elim (λ step. h i j hi step) (λ step. joins_back K j i (h j i hj step)) (step_from S i j l m pair)
+    ⊎_elim (λ step. h i j hi step) (λ step. join_back K j i (h j i hj step)) (step_from S i j l m pair)
 missing_found S K n (Some e) whole h = record {
   ordered = e.ordered;
   within = h.0;
@@ -163,5 +141,5 @@ missing_found S K n (Some e) whole h = record {
       let a' : k ≡ min l k = omega arith in
       let b' : l ≡ max l k = omega arith in
       ⊎_elim (λ step. h.2 k l hk step u.1 (before_ends k l k l e.lo e.hi a b c))
-      (λ step. h.2 l k hl step (λ t. u.1 (joins_back K l k t)) (before_ends l k k l e.lo e.hi a' b' c)) (step_from S k l o m u.0);
+      (λ step. h.2 l k hl step (λ t. u.1 (join_back K l k t)) (before_ends l k k l e.lo e.hi a' b' c)) (step_from S k l o m u.0);
 }

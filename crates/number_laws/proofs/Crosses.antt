@@ -3,6 +3,7 @@ use Rattle.std.proofs.Common.{◌≡◌, ℤ, pos, ◌+ℤ◌, ◌-ℤ◌, ◌*�
 use Rattle.std.proofs.lemmas.Int.{ints}
 use Rattle.std.proofs.Math.IntN.{*ℤ_comm}
 use Rattle.number_laws.proofs.Products.{mul_neg, neg_mul, mul_assoc, mul_left_comm, mul_sub, mul_differences, zero_factor}
+use Rattle.number_laws.proofs.Signs.{difference_zero}
 
 -- the cross product of two steps
 abbrev pub cross : (ux uy vx vy : ℤ) → ℤ
@@ -69,9 +70,6 @@ det_cycle ax ay bx by cx cy =
 pub det_swap : (ax ay bx by cx cy : ℤ) → determinant ax ay bx by cx cy ≡ neg_ℤ (determinant ax ay cx cy bx by)
 det_swap ax ay bx by cx cy = omega (arith, ints)
 
-equal_of_zero : (a b : ℤ) → a -ℤ b ≡ pos 0 → a ≡ b
-equal_of_zero a b h = omega (arith, ints)
-
 zero_of_equal : (a b : ℤ) → a ≡ b → a -ℤ b ≡ pos 0
 zero_of_equal a b h = omega (arith, ints)
 
@@ -90,8 +88,8 @@ scaled_upward dx dy ux uy vx vy hu hv =
 -- two steps along one direction have no area between them
 pub parallel : (dx dy ux uy vx vy : ℤ) → ¬ ((dx ≡ pos 0) × (dy ≡ pos 0)) → dx *ℤ uy -ℤ dy *ℤ ux ≡ pos 0 → dx *ℤ vy -ℤ dy *ℤ vx ≡ pos 0 → ux *ℤ vy -ℤ uy *ℤ vx ≡ pos 0
 parallel dx dy ux uy vx vy d hu hv =
-    let eu = equal_of_zero (dx *ℤ uy) (dy *ℤ ux) hu in
-    let ev = equal_of_zero (dx *ℤ vy) (dy *ℤ vx) hv in
+    let eu = difference_zero (dx *ℤ uy) (dy *ℤ ux) hu in
+    let ev = difference_zero (dx *ℤ vy) (dy *ℤ vx) hv in
     elim (zero_factor dx _ (scaled_across dx dy ux uy vx vy eu ev)) [
       | inl x ↦ elim (zero_factor dy _ (scaled_upward dx dy ux uy vx vy eu ev)) [ inl y ↦ absurd (d (x, y)) | inr e ↦ e ]
       | inr e ↦ e

@@ -11,3 +11,6 @@ below_or_above m n ne = grind arith
 -- what is below k + 1 is below k or is k
 pub below_or_last : (i k : ℕ) → i < k + 1 → (i < k) ⊎ (i ≡ k)
 below_or_last i k h = grind arith
+
+pub below_differs : (m n : ℕ) → m < n → m ≢ n
+below_differs m n h e = omega arith

@@ -73,3 +73,21 @@ products_agree a b c d h =
     let e : (a *ℤ b) *ℤ (c *ℤ d) ≡ (a *ℤ d) *ℤ (a *ℤ d) = exchange a b c d ∙ ap (λ x. (a *ℤ d) *ℤ x) (sym (difference_zero (a *ℤ d) (c *ℤ b) h)) in
     let s = square_at_least (a *ℤ d) in
     omega (arith, ints)
+
+pub weak_of_positive : (x : ℤ) → pos 0 <ℤ x → pos 0 ≤ℤ x
+weak_of_positive x h = omega (arith, ints)
+
+pub positive_of_neg : (x y : ℤ) → y ≡ neg_ℤ x → x <ℤ pos 0 → pos 0 <ℤ y
+positive_of_neg x y e h = omega (arith, ints)
+
+pub zero_of_neg : (x y : ℤ) → x ≡ neg_ℤ y → x ≡ pos 0 → y ≡ pos 0
+zero_of_neg x y e h = omega (arith, ints)
+
+pub zero_not_negative : {P : Type 0} (x : ℤ) → x ≡ pos 0 → x <ℤ pos 0 → P
+zero_not_negative x e h = absurd (omega (arith, ints))
+
+pub zero_not_positive : {P : Type 0} (x : ℤ) → x ≡ pos 0 → pos 0 <ℤ x → P
+zero_not_positive x e h = absurd (omega (arith, ints))
+
+pub cancel_zero : (a b : ℤ) → pos 0 <ℤ a → a *ℤ b ≡ pos 0 → b ≡ pos 0
+cancel_zero a b ha h = zero_of_weak b (cancel_weak a b ha (omega (arith, ints))) (cancel_weak a (neg_ℤ b) ha (omega (arith, ints, mul_neg a b)))

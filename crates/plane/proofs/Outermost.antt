@@ -1,18 +1,18 @@
 -- Why a walk over all points, twice, finds the next point on the border.
-use Rattle.std.proofs.Common.{◌≡◌, ◌≢◌, ◌<◌, ◌≤◌, ℕ, ◌+◌, List, length, ℤ, pos, ◌⊎◌, inl, inr, arith, sym, ◌∙◌, subst, ◌↔◌, Option, Some, None, Bool, true, false, not, true≢false, IsTrue, rules}
+use Rattle.std.proofs.Common.{◌≡◌, ◌≢◌, ◌<◌, ◌≤◌, ℕ, ◌+◌, List, length, pos, ◌⊎◌, inl, inr, arith, sym, ◌∙◌, subst, ◌↔◌, Option, Some, None, Bool, true, false, not, true≢false, IsTrue, rules}
 use Rattle.std.proofs.lemmas.Int.{ints}
 use Rattle.plane.specs.declared.coordinates.Point.{Point}
 use Rattle.plane.specs.declared.coordinates.Turn.{Turn}
 use Rattle.plane.specs.declared.coordinates.Turn.TheVariants.{Left, Straight, Right}
-use Rattle.plane.specs.Geometry.{point, LiesBetween, area, scalar, orientation, IsBetween, IsInner}
+use Rattle.plane.specs.Geometry.{point, LiesBetween, area, orientation, IsBetween, IsInner}
 use Rattle.plane.specs.Accepted.{AreAccepted}
 use Rattle.plane.specs.Hull.{IsBorderStep, IsStepOrNone}
 use Rattle.plane.specs.Walks.{IsFurther}
 use Rattle.plane.proofs.laws.Area.{area_back, area_first}
-use Rattle.number_laws.proofs.Signs.{negative_or}
 use Rattle.std.specs.Option.{is_some}
 use Rattle.number_laws.proofs.Naturals.{equal_or_not, below_or_last}
-use Rattle.plane.proofs.laws.Border.{keeps_off, reaches, stays, leaves, not_all_in_line, inner_by_steps, not_inner_right}
+use Rattle.plane.proofs.laws.Border.{further_not_opposite, step_is_further, none_is_further, opposite_is_in_line, not_all_in_line, inner_by_steps, not_inner_right}
+use Rattle.plane.proofs.laws.Along.{between_or_not}
 
 -- what a walk from start knows of b, the point furthest out from v among those below k
 pub record IsOutermost (S : List Point) (side : Turn) (v start b k : ℕ) : Type 0 where
@@ -34,34 +34,22 @@ begins S side v start within apart = record {
 in_line_between : (p q r : Point) → LiesBetween p q r → area p q r ≡ pos 0
 in_line_between p q r h = let e = area_back p q r in omega (arith, ints, h.0)
 
-cases_between : (S : List Point) (v w b : ℕ) → IsBetween S v w b ⊎ ¬ IsBetween S v w b
-cases_between S v w b = elim (zero_or (orientation S w v b)) [
-  | inl e ↦ elim (negative_or (scalar (point S v) (point S w) (point S b))) [
-    | inl h ↦ inl (e, h)
-    | inr rest ↦ inr (λ on. elim rest [ inl z ↦ omega (arith, ints, on.1, z) | inr z ↦ omega (arith, ints, on.1, z) ])
-  ]
-  | inr ne ↦ inr (λ on. ne on.0)
-]
-  where
-    zero_or : (z : ℤ) → (z ≡ pos 0) ⊎ (z ≢ pos 0)
-    zero_or z = elim (negative_or z) [ inl h ↦ inr (omega (arith, ints)) | inr rest ↦ elim rest [ inl e ↦ inl e | inr h ↦ inr (omega (arith, ints)) ] ]
-
 -- the walk goes on to a point further out
 pub goes_on : (S : List Point) (side : Turn) (v start b r : ℕ) → AreAccepted S → side ≢ Straight → r < length S → r ≢ v → IsFurther S side v b r → IsOutermost S side v start b r → IsOutermost S side v start r (r + 1)
 goes_on S side v start b r accepted bent hr rv further so = record {
   within = hr;
   apart = rv;
-  off = λ w step off. keeps_off S side v w b r step so.within (so.off w step off) further;
+  off = λ w step off. further_not_opposite S side v w b r step so.within (so.off w step off) further;
   met = λ w step off h. elim (below_or_last w r h) [
-    | inl k ↦ absurd (stays S side v w r step hr (subst (λ x. IsFurther S side v x r) (so.met w step off k) further))
+    | inl k ↦ absurd (none_is_further S side v w r step hr (subst (λ x. IsFurther S side v x r) (so.met w step off k) further))
     | inr e ↦ sym e
   ];
-  line = λ w step on x h. elim (cases_between S v w b) [
+  line = λ w step on x h. elim (between_or_not S v w b) [
     | inl opposite ↦ elim (below_or_last x r h) [
       | inl k ↦ so.line w step opposite x k
       | inr e ↦ subst (λ y. orientation S v w y ≡ pos 0) (sym e) (in_line_between (point S v) (point S w) (point S r) on)
     ]
-    | inr off ↦ absurd (keeps_off S side v w b r step so.within off further on)
+    | inr off ↦ absurd (further_not_opposite S side v w b r step so.within off further on)
   ];
 }
 
@@ -77,7 +65,7 @@ passes S side v start b r accepted bent hv hr near so = record {
       | inl rv ↦ absurd (step.apart (e ∙ rv))
       | inr near ↦ elim (equal_or_not b w) [
         | inl same ↦ same
-        | inr ne ↦ absurd (near (subst (λ y. IsFurther S side v b y) e (reaches S side v w b accepted.apart bent step hv so.within so.apart ne (so.off w step off))))
+        | inr ne ↦ absurd (near (subst (λ y. IsFurther S side v b y) e (step_is_further S side v w b accepted.apart bent step hv so.within so.apart ne (so.off w step off))))
       ]
     ]
   ];
@@ -85,7 +73,7 @@ passes S side v start b r accepted bent hv hr near so = record {
     | inl k ↦ so.line w step on x k
     | inr e ↦ elim near [
       | inl rv ↦ subst (λ y. orientation S v w y ≡ pos 0) (sym (e ∙ rv)) (area_first (point S v) (point S w))
-      | inr near ↦ subst (λ y. orientation S v w y ≡ pos 0) (sym e) (leaves S side v w b r bent step hr on near)
+      | inr near ↦ subst (λ y. orientation S v w y ≡ pos 0) (sym e) (opposite_is_in_line S side v w b r bent step hr on near)
     ]
   ];
 }

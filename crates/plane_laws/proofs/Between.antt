@@ -36,7 +36,7 @@ dot_ahead ux uy wx wy (inl hu) (inr hw) h = absurd (omega (arith, ints, zero_rig
 dot_ahead ux uy wx wy (inr hu) (inl hw) h = absurd (omega (arith, ints, zero_left ux wy hu.0, positive_positive uy wx hu.1 hw))
 dot_ahead ux uy wx wy (inr hu) (inr hw) h = omega (arith, ints, zero_left ux wx hu.0, positive_positive uy wy hu.1 hw.1)
 
-area_is_cross : (p q r : Point) → area p q r ≡ cross (q.x -ℤ p.x) (q.y -ℤ p.y) (r.x -ℤ p.x) (r.y -ℤ p.y)
+pub area_is_cross : (p q r : Point) → area p q r ≡ cross (q.x -ℤ p.x) (q.y -ℤ p.y) (r.x -ℤ p.x) (r.y -ℤ p.y)
 unfolding area
 area_is_cross p q r = refl
 

@@ -5,16 +5,15 @@ use Rattle.std.proofs.Math.IntN.{*ℤ_comm}
 use Rattle.std.proofs.lemmas.Int.{ints}
 use Rattle.plane.specs.declared.coordinates.Point.{Point}
 use Rattle.plane.specs.Geometry.{area}
-use Rattle.number_laws.proofs.Products.{mul_add, mul_neg, mul_differences}
+use Rattle.number_laws.proofs.Products.{mul_add, mul_differences}
 use Rattle.number_laws.proofs.Crosses.{cross, three_across}
-use Rattle.number_laws.proofs.Signs.{cancel_weak, zero_left, zero_right}
+use Rattle.number_laws.proofs.Signs.{zero_left, zero_right, cancel_zero}
 use Rattle.plane_laws.specs.Order.{IsBefore, AreInOrder}
 use Rattle.plane_laws.proofs.Steps.{Ahead, turn_weak, turn_first, turn_last}
-use Rattle.number_laws.proofs.Signs.{zero_of_weak}
 use Rattle.number_laws.proofs.Crosses.{cross_back}
 
 -- the area by the steps from p to q and from q to r
-area_steps : (p q r : Point) → area p q r ≡ cross (q.x -ℤ p.x) (q.y -ℤ p.y) (r.x -ℤ q.x) (r.y -ℤ q.y)
+pub area_steps : (p q r : Point) → area p q r ≡ cross (q.x -ℤ p.x) (q.y -ℤ p.y) (r.x -ℤ q.x) (r.y -ℤ q.y)
 unfolding area
 area_steps p q r =
     omega (arith, ints, mul_differences q.x p.x r.y p.y, mul_differences q.y p.y r.x p.x, mul_differences q.x p.x r.y q.y, mul_differences q.y p.y r.x q.x)
@@ -79,17 +78,13 @@ in_order p q r s hp hq hr =
     (λ g h. let t : pos 0 <ℤ cross wx wy ux uy = turn_last wx wy vx vy ux uy w v u (omega (arith, ints, cross_back vx vy wx wy)) (omega (arith, ints, cross_back ux uy vx vy)) in omega (arith, ints, cross_back ux uy wx wy))
     (λ g h. let t : pos 0 <ℤ cross wx wy ux uy = turn_first wx wy vx vy ux uy w v u (omega (arith, ints, cross_back vx vy wx wy)) (omega (arith, ints, cross_back ux uy vx vy)) in omega (arith, ints, cross_back ux uy wx wy))
 
-zero_factor : (a b : ℤ) → pos 0 <ℤ a → a *ℤ b ≡ pos 0 → b ≡ pos 0
-zero_factor a b ha h =
-    zero_of_weak b (cancel_weak a b ha (omega (arith, ints))) (cancel_weak a (neg_ℤ b) ha (omega (arith, ints, mul_neg a b)))
-
 -- two steps in line with a third are in line
 in_line_steps : (ux uy vx vy wx wy : ℤ) → Ahead vx vy → cross ux uy vx vy ≡ pos 0 → cross vx vy wx wy ≡ pos 0 → cross ux uy wx wy ≡ pos 0
 in_line_steps ux uy vx vy wx wy (inl hv) hx hy =
-    zero_factor vx (cross ux uy wx wy) hv (omega (arith, ints, three_across ux uy vx vy wx wy, zero_right ux (cross vx vy wx wy) hy, zero_right wx (cross ux uy vx vy) hx))
+    cancel_zero vx (cross ux uy wx wy) hv (omega (arith, ints, three_across ux uy vx vy wx wy, zero_right ux (cross vx vy wx wy) hy, zero_right wx (cross ux uy vx vy) hx))
 in_line_steps ux uy vx vy wx wy (inr hv) hx hy =
-    let u : ux ≡ pos 0 = zero_factor vy ux hv.1 (omega (arith, ints, zero_right uy vx hv.0, *ℤ_comm vy ux)) in
-    let w : wx ≡ pos 0 = zero_factor vy wx hv.1 (omega (arith, ints, zero_left vx wy hv.0)) in
+    let u : ux ≡ pos 0 = cancel_zero vy ux hv.1 (omega (arith, ints, zero_right uy vx hv.0, *ℤ_comm vy ux)) in
+    let w : wx ≡ pos 0 = cancel_zero vy wx hv.1 (omega (arith, ints, zero_left vx wy hv.0)) in
     omega (arith, ints, zero_left ux wy u, zero_right uy wx w)
 
 -- points in line with two others are in line

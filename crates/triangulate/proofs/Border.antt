@@ -20,13 +20,12 @@ use Rattle.triangulate.specs.Swept.{opposite}
 use Rattle.triangulate.proofs.Field.{Setting, turned_back, not_both}
 use Rattle.triangulate.proofs.Final.{All as AllIn, clear_turned}
 use Rattle.triangulate.proofs.Places.{sweep_setting, opposite_turned}
-use Rattle.triangulate.proofs.Triangulated.{Swept, border_links, clear_from, border_swap, joins_own}
-use Rattle.triangulate.proofs.Joined.{joins_contains}
+use Rattle.triangulate.proofs.Triangulated.{Swept, border_links, clear_from, border_swap}
+use Rattle.partition_defs.proofs.laws.Joined.{contains_joins, joins_pair}
 use Rattle.triangulate.proofs.Count.{Key, key, ends, chain_keys, keys_count, all_keys, contains_key, key_cases, keys_distinct, pairs_distinct, same_length}
 use Rattle.plane.proofs.laws.Area.{area_back}
-
-flat : (x : ℤ) → pos 0 ≤ℤ x → pos 0 ≤ℤ neg_ℤ x → x ≡ pos 0
-flat x g h = omega (arith, ints)
+use Rattle.number_laws.proofs.Naturals.{below_differs}
+use Rattle.number_laws.proofs.Signs.{zero_of_weak}
 
 -- no side is on both chains
 not_shared : (S : List Point) (apart : AreApart S) → AreSpread S → (T : List Pair) (r r2 : List ℕ) (z : ℕ) → Swept S apart T r r2 z → AllIn (sweep_setting S apart) z
@@ -34,7 +33,7 @@ not_shared : (S : List Point) (apart : AreApart S) → AreSpread S → (T : List
 not_shared S apart spread T r r2 z m all p q k l =
     let d : Side (length S) (IsSweptBefore S) (orientation S) (Joins T) (λ s. UpTo (IsSweptBefore S) s z) p q = m.lower.sides p q k in
     let e : Side (length S) (IsSweptBefore S) (opposite S) (Joins T) (λ s. UpTo (IsSweptBefore S) s z) p q = m.upper.sides p q l in
-    let on : (s : ℕ) → s < length S → orientation S p q s ≡ pos 0 = λ s sn. flat (orientation S p q s) (d.left s sn (all s sn)) (e.left s sn (all s sn)) in
+    let on : (s : ℕ) → s < length S → orientation S p q s ≡ pos 0 = λ s sn. zero_of_weak (orientation S p q s) (d.left s sn (all s sn)) (e.left s sn (all s sn)) in
     let a = spread.0 in let b = spread.1 in let c = spread.2 in
     spread.6 (all_in_line (point S p) (point S q) (point S a) (point S b) (point S c) d.before (on a spread.3) (on b spread.4) (on c spread.5))
 
@@ -72,7 +71,7 @@ contains_ends B e c =
 listed : (S : List Point) (B : List Pair) → IsBorderList S B → (i j : ℕ) → i < j → j < length S → IsBorderPair S i j → Contains (map ends B) (key i j)
 listed S B b i j h jn p =
     let u : Joins B i j = (b.exact i j h jn).1 p in
-    subst (λ x. Contains (map ends B) x) (key_of u.1 i j h u.4) (contains_ends B u.1 (joins_contains B i j u))
+    subst (λ x. Contains (map ends B) x) (key_of u.1 i j h u.4) (contains_ends B u.1 (joins_pair B i j u))
 
 listed_any : (S : List Point) (apart : AreApart S) (B : List Pair) → IsBorderList S B → (i j : ℕ) → i < length S → j < length S → i ≢ j → IsBorderPair S i j → Contains (map ends B) (key i j)
 listed_any S apart B b i j iN jn hne p = elim (cases_order i j) [
@@ -90,18 +89,15 @@ on_chains : (S : List Point) (apart : AreApart S) (T : List Pair) (r r2 : List �
 on_chains S apart T r r2 z p q (inl k) = Contains-append_left (chain_keys z r) (chain_keys z r2) (key p q) (contains_key z r p q k)
 on_chains S apart T r r2 z p q (inr k) = Contains-append_right (chain_keys z r) (chain_keys z r2) (key p q) (contains_key z r2 p q k)
 
-not_same : (i j : ℕ) → i < j → i ≢ j
-not_same i j h e = omega arith
-
 pair_on_chains : (S : List Point) (apart : AreApart S) (T : List Pair) (r r2 : List ℕ) (z : ℕ) → Swept S apart T r r2 z → AllIn (sweep_setting S apart) z
     → (B : List Pair) → IsBorderList S B → (e : Pair) → Contains B e → Contains (chain_keys z r ++ chain_keys z r2) (ends e)
 pair_on_chains S apart T r r2 z m all B b e c =
     let o : e.lo < e.hi = e.ordered in
     let hn : e.hi < length S = b.within e c in
-    let p : IsBorderPair S e.lo e.hi = (b.exact e.lo e.hi o hn).0 (joins_own B e c) in
+    let p : IsBorderPair S e.lo e.hi = (b.exact e.lo e.hi o hn).0 (contains_joins B e c) in
     let f : ends e ≡ key e.lo e.hi = key_of e e.lo e.hi o (inl (refl, refl)) in
     subst (λ x. Contains (chain_keys z r ++ chain_keys z r2) x) (sym f)
-    (elim (border_links S apart T r r2 z m all e.lo e.hi (omega arith) hn (λ g. not_same e.lo e.hi o g) p) [
+    (elim (border_links S apart T r r2 z m all e.lo e.hi (omega arith) hn (λ g. below_differs e.lo e.hi o g) p) [
       | inl k ↦ on_chains S apart T r r2 z e.lo e.hi k
       | inr k ↦ subst (λ x. Contains (chain_keys z r ++ chain_keys z r2) x) (key_swap e.hi e.lo) (on_chains S apart T r r2 z e.hi e.lo k)
     ])

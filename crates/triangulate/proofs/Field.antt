@@ -4,6 +4,7 @@ use Rattle.std.specs.Prelude.{◌<ℤ◌, ◌≤ℤ◌}
 use Rattle.std.proofs.lemmas.Int.{ints}
 use Rattle.plane_laws.specs.Order.{AreInOrder}
 use Rattle.triangulate.specs.Sides.{UpTo}
+use Rattle.number_laws.proofs.Signs.{zero_of_own}
 
 -- n points in a strict order
 pub record Setting : Type 1 where
@@ -48,11 +49,8 @@ turned_laws E o L = record {
 pub flip : (E : Setting) (o : ℕ → ℕ → ℕ → ℤ) → Laws E o → (i j k : ℕ) → o i k j ≡ neg_ℤ (o i j k)
 flip E o L i j k = sym (L.cycle i k j) ∙ sym (L.cycle k j i) ∙ L.swap i j k
 
-own_negative : (x : ℤ) → x ≡ neg_ℤ x → x ≡ pos 0
-own_negative x h = omega (arith, ints)
-
 pub zero_first : (E : Setting) (o : ℕ → ℕ → ℕ → ℤ) → Laws E o → (i k : ℕ) → o i i k ≡ pos 0
-zero_first E o L i k = own_negative (o i i k) (L.swap i i k)
+zero_first E o L i k = zero_of_own (o i i k) (L.swap i i k)
 
 pub zero_ends : (E : Setting) (o : ℕ → ℕ → ℕ → ℤ) → Laws E o → (i j : ℕ) → o i j i ≡ pos 0
 zero_ends E o L i j = L.cycle i i j ∙ zero_first E o L i j

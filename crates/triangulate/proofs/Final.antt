@@ -3,10 +3,11 @@ use Rattle.std.proofs.Common.{◌≡◌, ◌≢◌, ℕ, ℤ, pos, neg_ℤ, ◌<
 use Rattle.std.specs.Prelude.{◌<ℤ◌, ◌≤ℤ◌}
 use Rattle.std.proofs.lemmas.Int.{ints}
 use Rattle.triangulate.proofs.Field.{Setting, Laws, AreTurned, by_place, before_up_to, zero_last}
-use Rattle.triangulate.proofs.Turns.{opposite_turned}
+use Rattle.plane.proofs.laws.Opposite.{opposite_neg}
 use Rattle.triangulate.proofs.Sides.{one_side}
 use Rattle.triangulate.specs.Sides.{UpTo, Clear, Cross}
 use Rattle.triangulate.specs.State.{Links, Side, Covered, Chain, Sweeps, Apex, Pairs, Met, Whole}
+use Rattle.number_laws.proofs.Signs.{zero_of_neg}
 
 -- all points are in the state
 abbrev pub All : (E : Setting) (z : ℕ) → Type 0
@@ -35,11 +36,8 @@ apex_of E o w L tr J r r2 z m all p q s j sn h = elim (m.apex p q j) [
   ]
 ]
 
-zero_kept : (x y : ℤ) → y ≡ neg_ℤ x → y ≡ pos 0 → x ≡ pos 0
-zero_kept x y e h = omega (arith, ints)
-
 pub clear_turned : (E : Setting) (o w : ℕ → ℕ → ℕ → ℤ) → AreTurned o w → (i j : ℕ) → Clear E.n E.B o i j → Clear E.n E.B w i j
-clear_turned E o w tr i j h s sn p q e = h s sn p q (zero_kept (o i s j) (w i s j) (tr i s j) e)
+clear_turned E o w tr i j h s sn p q e = h s sn p q (zero_of_neg (w i s j) (o i s j) (tr i s j) e)
 
 weak_turned : (x y v : ℤ) → v ≡ neg_ℤ x → y ≡ neg_ℤ x → pos 0 ≤ℤ v → pos 0 ≤ℤ y
 weak_turned x y v e f h = omega (arith, ints)
@@ -78,7 +76,7 @@ cross_back o a b c d h = (h.1, h.0)
 
 cross_first : (E : Setting) (o : ℕ → ℕ → ℕ → ℤ) → Laws E o → (a b c d : ℕ) → Cross o a b c d → Cross o b a c d
 cross_first E o L a b c d h = (
-  opposite_turned (o a b c) (o a b d) (o b a c) (o b a d) (L.swap a b c) (L.swap a b d) h.0,
+  opposite_neg (o a b c) (o a b d) (o b a c) (o b a d) (L.swap a b c) (L.swap a b d) h.0,
   elim h.1 [ inl g ↦ inr (g.1, g.0) | inr g ↦ inl (g.1, g.0) ],
 )
 

@@ -1,7 +1,7 @@
 -- Joining one more point, on the lists of pairs and of points that the code keeps.
 use Rattle.std.proofs.Common.{◌≡◌, ◌≢◌, ℕ, ℤ, pos, ◌<◌, ◌+◌, ◌*◌, ◌⊎◌, inl, inr, min, max, List, [], ◌∷◌, ◌++◌, length, get_or, sym, ◌∙◌, refl, subst, arith, length-append}
 use Rattle.std.specs.Prelude.{◌<ℤ◌}
-use Rattle.std.specs.List.{All, Contains}
+use Rattle.std.specs.List.{All}
 use Rattle.std.proofs.lemmas.List.Elements.{All-tail, Contains-append_left, Contains-push, Contains-push_cases, Contains-get_or}
 use Rattle.std.proofs.lemmas.List.Quantifiers.{all_pairs_push}
 use Rattle.std.proofs.lemmas.Bool.{cases_order}
@@ -22,6 +22,7 @@ use Rattle.triangulate.proofs.State.{Adds}
 use Rattle.triangulate.proofs.Step.{step}
 use Rattle.triangulate.proofs.Moves.{unjoined}
 use Rattle.triangulate.proofs.Places.{sweep_setting, plane_laws, opposite_laws, opposite_turned}
+use Rattle.partition_defs.proofs.laws.Joined.{ends_back, joins_pair, joins_from}
 
 -- a pair made of two points has these ends
 pub ends_of_new : (e : Pair) (a z : ℕ) → e.lo ≡ min a z → e.hi ≡ max a z → HasEnds e a z
@@ -36,22 +37,12 @@ same_ends e a z p q (inl g) (inr h) = inr (sym h.1 ∙ g.1, sym h.0 ∙ g.0)
 same_ends e a z p q (inr g) (inl h) = inr (sym h.0 ∙ g.0, sym h.1 ∙ g.1)
 same_ends e a z p q (inr g) (inr h) = inl (sym h.1 ∙ g.1, sym h.0 ∙ g.0)
 
-ends_back : (e : Pair) (a z : ℕ) → HasEnds e a z → HasEnds e z a
-ends_back e a z (inl h) = inr h
-ends_back e a z (inr h) = inl h
-
-pub joins_from : (T : List Pair) (e : Pair) (i j : ℕ) → Contains T e → HasEnds e i j → Joins T i j
-joins_from T e i j c h = (c.0, e, c.1, c.2, h)
-
-pub joins_contains : (T : List Pair) (i j : ℕ) (h : Joins T i j) → Contains T h.1
-joins_contains T i j h = (h.0, h.2, h.3)
-
 pub push_adds : (T : List Pair) (e : Pair) (a z : ℕ) → HasEnds e a z → Adds (Joins T) (Joins (T ++ e ∷ [])) a z
 push_adds T e a z h = record {
-  old = λ p q j. joins_from (T ++ e ∷ []) j.1 p q (Contains-append_left T (e ∷ []) j.1 (joins_contains T p q j)) j.4;
+  old = λ p q j. joins_from (T ++ e ∷ []) j.1 p q (Contains-append_left T (e ∷ []) j.1 (joins_pair T p q j)) j.4;
   new = joins_from (T ++ e ∷ []) e a z (Contains-push T e) h;
   back = joins_from (T ++ e ∷ []) e z a (Contains-push T e) (ends_back e a z h);
-  only = λ p q j. elim (Contains-push_cases T e j.1 (joins_contains (T ++ e ∷ []) p q j)) [
+  only = λ p q j. elim (Contains-push_cases T e j.1 (joins_pair (T ++ e ∷ []) p q j)) [
     | inl c ↦ inl (joins_from T j.1 p q c j.4)
     | inr f ↦ inr (same_ends e a z p q h (subst (λ x. HasEnds x p q) (sym f) j.4))
   ];

@@ -3,29 +3,29 @@ use Rattle.std.proofs.Common.{◌≡◌, ℕ, ℤ, pos, neg_ℤ, ◌<◌, inl, i
 use Rattle.std.specs.Prelude.{◌<ℤ◌, ◌≤ℤ◌}
 use Rattle.std.proofs.lemmas.Int.{ints}
 use Rattle.triangulate.proofs.Field.{Setting, Laws, AreTurned, by_place, up_to_before, before_up_to, up_to_not_before, zero_ends, zero_last, turned_back}
-use Rattle.triangulate.proofs.Turns.{beyond_side, opposite_turned}
+use Rattle.triangulate.proofs.Turns.{beyond_side}
 use Rattle.triangulate.proofs.Sides.{settled_before, settled_side}
 use Rattle.triangulate.proofs.State.{Adds}
-use Rattle.triangulate.proofs.Step.{at, chain_more, apex_more, pairs_add, sweeps_new, weaken, at_zero, met_more}
+use Rattle.triangulate.proofs.Step.{at, chain_more, apex_more, pairs_add, sweeps_new, at_zero, met_more}
 use Rattle.triangulate.proofs.Wedge.{aside, no_low}
 use Rattle.triangulate.specs.Sides.{UpTo, AllLeft, Clear, Beyond, Cross}
 use Rattle.triangulate.specs.State.{Links, Side, Covered, Chain, Reach, Sweeps, Apex, Pairs, Met, From, Joining, Whole, Settled}
-
-zero_of_turned : (x y : ℤ) → y ≡ neg_ℤ x → y ≡ pos 0 → x ≡ pos 0
-zero_of_turned x y e h = omega (arith, ints)
+use Rattle.plane.proofs.laws.Opposite.{opposite_neg}
+use Rattle.number_laws.proofs.Signs.{weak_of_positive}
+use Rattle.number_laws.proofs.Signs.{zero_of_neg}
 
 back_turned : (x y : ℤ) → y ≡ neg_ℤ x → x ≡ neg_ℤ y
 back_turned x y e = omega (arith, ints)
 
 cross_turned : (o w : ℕ → ℕ → ℕ → ℤ) → AreTurned o w → (a b c d : ℕ) → Cross w a b c d → Cross o a b c d
 cross_turned o w tr a b c d h = (
-  opposite_turned (w a b c) (w a b d) (o a b c) (o a b d) (back_turned (o a b c) (w a b c) (tr a b c)) (back_turned (o a b d) (w a b d) (tr a b d)) h.0,
-  opposite_turned (w c d a) (w c d b) (o c d a) (o c d b) (back_turned (o c d a) (w c d a) (tr c d a)) (back_turned (o c d b) (w c d b) (tr c d b)) h.1,
+  opposite_neg (w a b c) (w a b d) (o a b c) (o a b d) (back_turned (o a b c) (w a b c) (tr a b c)) (back_turned (o a b d) (w a b d) (tr a b d)) h.0,
+  opposite_neg (w c d a) (w c d b) (o c d a) (o c d b) (back_turned (o c d a) (w c d a) (tr c d a)) (back_turned (o c d b) (w c d b) (tr c d b)) h.1,
 )
 
 sweeps_turned : (E : Setting) (o w : ℕ → ℕ → ℕ → ℤ) → AreTurned o w → (p q : ℕ) → Sweeps E.n E.B o p q → Sweeps E.n E.B w p q
 sweeps_turned E o w tr p q h = record {
-  clear = λ s sn hp hq e. h.clear s sn hp hq (zero_of_turned (o p s q) (w p s q) (tr p s q) e);
+  clear = λ s sn hp hq e. h.clear s sn hp hq (zero_of_neg (w p s q) (o p s q) (tr p s q) e);
   alone = λ k l kn ln hk hl c. h.alone k l kn ln hk hl (cross_turned o w tr p q k l c);
 }
 
@@ -200,7 +200,7 @@ closing_left E o L J t r z zn c h s sn (inr g) =
     by_place E s t sn c.top_in
     (λ p. closing E o L J t r z c h s sn p)
     (λ e. subst (λ x. pos 0 ≤ℤ o t z x) (sym e) (at_zero (o t z t) (zero_ends E o L t z)))
-    (λ p. weaken (o t z s) (c.beyond s sn p g))
+    (λ p. weak_of_positive (o t z s) (c.beyond s sn p g))
 
 older_left : (E : Setting) (o : ℕ → ℕ → ℕ → ℤ) → Laws E o → (J : ℕ → ℕ → Type 0) (t : ℕ) (r : List ℕ) (z : ℕ) → Reach E.n E.B o J t r z → Settled o t r z
     → (p q : ℕ) → Links t r p q → pos 0 ≤ℤ o p q z

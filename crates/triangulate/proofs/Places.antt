@@ -1,5 +1,5 @@
 -- The points of the plane in the order of the sweep.
-use Rattle.std.proofs.Common.{◌≡◌, ℕ, ℤ, ◌<◌, ◌⊎◌, inl, inr, sym, ap₂, refl, List, length, arith}
+use Rattle.std.proofs.Common.{◌≡◌, ℕ, ◌<◌, ◌⊎◌, inl, inr, sym, refl, List, length, arith}
 use Rattle.std.proofs.lemmas.Int.{ints}
 use Rattle.std.proofs.lemmas.Bool.{cases_order}
 use Rattle.plane.specs.declared.coordinates.Point.{Point}
@@ -12,19 +12,12 @@ use Rattle.plane_laws.proofs.Between.{by_order}
 use Rattle.triangulate.proofs.Field.{Setting, Laws, AreTurned, turned_laws}
 use Rattle.triangulate.specs.Swept.{opposite}
 use Rattle.plane.proofs.laws.Area.{area_cycle, area_back}
-
-pub before_trans : (p q r : Point) → IsBefore p q → IsBefore q r → IsBefore p r
-before_trans p q r (inl g) (inl h) = inl (omega (arith, ints))
-before_trans p q r (inl g) (inr h) = inl (omega (arith, ints, h.0))
-before_trans p q r (inr g) (inl h) = inl (omega (arith, ints, g.0))
-before_trans p q r (inr g) (inr h) = inr (omega (arith, ints, g.0, h.0), omega (arith, ints, g.1, h.1))
+use Rattle.plane_laws.proofs.Order.{before_trans}
+use Rattle.plane.proofs.laws.Line.{same_point}
 
 pub before_irrefl : (p : Point) → ¬ IsBefore p p
 before_irrefl p (inl h) = omega (arith, ints)
 before_irrefl p (inr h) = omega (arith, ints, h.1)
-
-same_point : (p q : Point) → p.x ≡ q.x → p.y ≡ q.y → p ≡ q
-same_point p q ex ey = ap₂ (λ (x y : ℤ). (let r : Point = record { x = x; y = y } in r)) ex ey
 
 pub index_same : (S : List Point) → AreApart S → (i j : ℕ) → i < length S → j < length S → point S i ≡ point S j → i ≡ j
 index_same S apart i j hi hj e =

@@ -1,9 +1,9 @@
 -- A triangle at a side that a new point sees, the side that closes a chain, and the sides of the whole.
-use Rattle.std.proofs.Common.{◌≡◌, ◌≢◌, ℕ, ℤ, pos, neg_ℤ, arith, ◌<◌, ◌⊎◌, inl, inr, sym, ◌∙◌, subst}
+use Rattle.std.proofs.Common.{◌≡◌, ◌≢◌, ℕ, ℤ, pos, neg_ℤ, arith, ◌<◌, inl, inr, sym, ◌∙◌, subst}
 use Rattle.std.specs.Prelude.{◌<ℤ◌, ◌≤ℤ◌}
 use Rattle.std.proofs.lemmas.Int.{ints}
 use Rattle.plane_laws.specs.Order.{AreInOrder}
-use Rattle.number_laws.proofs.Signs.{by_sign}
+use Rattle.number_laws.proofs.Signs.{zero_of_neg, negative_or}
 use Rattle.triangulate.proofs.Signs.{second_rises, third_rises, last_rises}
 use Rattle.triangulate.proofs.Field.{Setting, Laws, flip, by_place}
 use Rattle.triangulate.proofs.Turns.{not_positive, same_weak}
@@ -25,9 +25,6 @@ before_all a b c d q ha hd hb = let r : b <ℤ a = q.falls_last (omega (arith, i
 pub amid_all : (a b c d : ℤ) → AreInOrder a b c d → a ≡ pos 0 → b <ℤ pos 0 → pos 0 ≤ℤ d → ⊥
 amid_all a b c d q ha hb hd = let r : a ≤ℤ b = q.rises (omega (arith, ints)) hd in omega (arith, ints)
 
-zero_turned : (x y : ℤ) → x ≡ neg_ℤ y → x ≡ pos 0 → y ≡ pos 0
-zero_turned x y e h = omega (arith, ints)
-
 -- where z is right of the side a to b, no point lies in the triangle b a z
 pub empty_side : (E : Setting) (o : ℕ → ℕ → ℕ → ℤ) → Laws E o → (a b z : ℕ) → a < E.n → b < E.n → z < E.n → E.B a b → E.B b z
     → AllLeft E.n E.B o (λ s. E.B s z) a b → Clear E.n E.B o a b → o a b z <ℤ pos 0 → Empty E.n E.B o b a z
@@ -41,7 +38,7 @@ empty_side E o L a b z an bn zn hab hbz left clear h = record {
       (sym (L.cycle s a b) ∙ flat) h (same_weak (o a z s) (o s a z) (L.cycle s a z) g.1))
       (λ e. na e)
       (λ has. by_place E s b sn bn
-      (λ hsb. clear s sn has hsb (zero_turned (o a b s) (o a s b) (flip E o L a s b) flat))
+      (λ hsb. clear s sn has hsb (zero_of_neg (o a b s) (o a s b) (flip E o L a s b) flat))
       (λ e. nb e)
       (λ hbs. amid_all (o a b s) (o a b z) (o a s z) (o b s z) (L.order a b s z hab hbs hsz) flat h
       (same_weak (o z b s) (o b s z) (sym (L.cycle z b s)) g.2))))
@@ -71,11 +68,8 @@ settled_side E o L p q a z hpq hqa haz hp hq =
 flat_first : (x y : ℤ) → x ≡ neg_ℤ y → pos 0 ≤ℤ x → pos 0 ≤ℤ y → y ≡ pos 0
 flat_first x y e g h = omega (arith, ints)
 
-zero_or : (y : ℤ) → (y <ℤ pos 0) ⊎ ((y ≡ pos 0) ⊎ (pos 0 <ℤ y))
-zero_or y = by_sign y (λ p. inr (inr p)) (λ p. inr (inl p)) (λ p. inl p)
-
 below : (x y : ℤ) → x ≡ neg_ℤ y → pos 0 ≤ℤ x → y ≢ pos 0 → y <ℤ pos 0
-below x y e g h = elim (zero_or y) [ inl p ↦ p | inr q ↦ elim q [ inl p ↦ absurd (h p) | inr p ↦ absurd (omega (arith, ints)) ] ]
+below x y e g h = elim (negative_or y) [ inl p ↦ p | inr q ↦ elim q [ inl p ↦ absurd (h p) | inr p ↦ absurd (omega (arith, ints)) ] ]
 
 within_one : (a b c d : ℤ) → AreInOrder a b c d → pos 0 ≤ℤ a → b <ℤ pos 0 → pos 0 ≤ℤ d → ⊥
 within_one a b c d q ha hb hd = let r : pos 0 ≤ℤ b = second_rises a b c d q ha hd in omega (arith, ints)

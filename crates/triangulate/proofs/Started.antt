@@ -8,18 +8,12 @@ use Rattle.partition_defs.specs.Ascending.{IsAscending}
 use Rattle.partition_defs.specs.Sets.{AreSame}
 use Rattle.subdivision.specs.State.{State, IsSubdivision}
 use Rattle.subdivision.specs.Listing.{IsSortedFrom}
-use Rattle.partition_defs.proofs.laws.Has.{has_of, contains_of}
-use Rattle.partition_defs.proofs.laws.Joined.{joined, joins_of, triangulation_same, same_lists}
+use Rattle.partition_defs.proofs.laws.Joined.{triangulation_same, same_lists, among_joins}
 use Rattle.subdivision.proofs.Sorting.{sorted_ascends}
 use Rattle.triangulate.specs.Start.{IsStart, IsSortedStart}
 
-joins_too : (T U : List Pair) → ((e : Pair) → Contains T e → Contains U e) → (i j : ℕ) → Joins T i j → Joins U i j
-joins_too T U more i j h =
-    let (e, has, ends) = joined T i j h in
-    joins_of U e i j (has_of U e (more e (contains_of T e has))) ends
-
 same_members : (T U : List Pair) → ((e : Pair) → Contains U e ↔ Contains T e) → AreSame T U
-same_members T U members i j = (joins_too T U (λ e. (members e).1) i j, joins_too U T (λ e. (members e).0) i j)
+same_members T U members i j = (among_joins T U (λ e. (members e).1) i j, among_joins U T (λ e. (members e).0) i j)
 
 pub sorted_start : (S : List Point) (old new : List Pair) → IsStart S old → IsSortedFrom old new → length new ≡ length old → IsSortedStart S new
 sorted_start S old new start sorted count =

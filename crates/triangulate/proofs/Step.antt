@@ -9,6 +9,7 @@ use Rattle.triangulate.proofs.State.{Adds}
 use Rattle.triangulate.proofs.Wedge.{wedge}
 use Rattle.triangulate.specs.Sides.{UpTo, Beyond, Empty, AllLeft, Clear}
 use Rattle.triangulate.specs.State.{Links, Side, Covered, Chain, Reach, Sweeps, Apex, Pairs, From, Joining}
+use Rattle.number_laws.proofs.Signs.{positive_of_neg, weak_of_positive}
 
 -- at equal points
 pub at : (P : ℕ → ℕ → Type 0) (a b p q : ℕ) → p ≡ a → q ≡ b → P a b → P p q
@@ -49,14 +50,8 @@ pairs_add E o J J2 a z an zn haz add new h = record {
 pub positive_turned : (x y : ℤ) → y ≡ neg_ℤ x → x ≡ pos 0 → pos 0 <ℤ y → ⊥
 positive_turned x y e f g = omega (arith, ints)
 
-pub weaken : (x : ℤ) → pos 0 <ℤ x → pos 0 ≤ℤ x
-weaken x h = omega (arith, ints)
-
 pub at_zero : (x : ℤ) → x ≡ pos 0 → pos 0 ≤ℤ x
 at_zero x h = omega (arith, ints)
-
-pub turned_above : (x y : ℤ) → y ≡ neg_ℤ x → x <ℤ pos 0 → pos 0 <ℤ y
-turned_above x y e h = omega (arith, ints)
 
 -- the pair of a and z, where the points after a are left of it and a is on the chain
 pub sweeps_new : (E : Setting) (o : ℕ → ℕ → ℕ → ℤ) → Laws E o → (a z : ℕ) → a < E.n → z < E.n → E.B a z → Beyond E.n E.B o a z → Spine E.n E.B o a z → Sweeps E.n E.B o a z
@@ -73,7 +68,7 @@ covers_less E b a r i k hia = elim k.link [
 
 side_new : (E : Setting) (o : ℕ → ℕ → ℕ → ℤ) → Laws E o → (a z last : ℕ) → a < E.n → last < E.n → E.B last z → UpTo E.B a last → Beyond E.n E.B o a z → pos 0 ≤ℤ o a z last
 side_new E o L a z last an ln hl (inl e) far = subst (λ x. pos 0 ≤ℤ o a z x) e (at_zero (o a z a) (zero_ends E o L a z))
-side_new E o L a z last an ln hl (inr p) far = weaken (o a z last) (far last ln p hl)
+side_new E o L a z last an ln hl (inr p) far = weak_of_positive (o a z last) (far last ln p hl)
 
 step_apex : (E : Setting) (o w : ℕ → ℕ → ℕ → ℤ) → Laws E o → (J J2 : ℕ → ℕ → Type 0) (b a : ℕ) (r : List ℕ) (t2 : ℕ) (r2 : List ℕ) (z last : ℕ)
     → Joining E.n E.B o w J b (a ∷ r) t2 r2 z last → a < E.n → b < E.n → pos 0 <ℤ o b a z → Empty E.n E.B o b a z → J a b → Adds J J2 a z
@@ -134,7 +129,7 @@ step E o w L J J2 b a r t2 r2 z last m h add =
     let haz : E.B a z = E.trans a b z s.before s.b_seen in
     let far : Beyond E.n E.B o a z = beyond_side E o L a b z s.b_in s.before s.b_seen s.left h in
     let hollow : Empty E.n E.B o b a z = empty_side E o L a b z s.a_in s.b_in m.z_in s.before s.b_seen s.left s.clear h in
-    let baz : pos 0 <ℤ o b a z = turned_above (o a b z) (o b a z) (L.swap a b z) h in
+    let baz : pos 0 <ℤ o b a z = positive_of_neg (o a b z) (o b a z) (L.swap a b z) h in
     record {
       z_in = m.z_in;
       last_in = m.last_in;

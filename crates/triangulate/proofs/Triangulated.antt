@@ -1,39 +1,33 @@
 -- The pairs of the state with all points are a triangulation of sweep pairs.
-use Rattle.std.proofs.Common.{◌≡◌, ◌≢◌, ℕ, ℤ, pos, neg_ℤ, ◌<◌, ◌⊎◌, inl, inr, ap₂, refl, subst, List, length, arith}
-use Rattle.std.specs.Prelude.{◌<ℤ◌, ◌+ℤ◌, ◌-ℤ◌}
+use Rattle.std.proofs.Common.{◌≡◌, ◌≢◌, ℕ, ℤ, pos, neg_ℤ, ◌<◌, ◌⊎◌, inl, inr, subst, List, length, arith}
+use Rattle.std.specs.Prelude.{◌<ℤ◌}
 use Rattle.std.proofs.lemmas.Int.{ints}
-use Rattle.std.proofs.Math.IntN.{*ℤ_comm}
-use Rattle.std.specs.List.{Contains}
 use Rattle.plane.specs.declared.coordinates.Point.{Point}
 use Rattle.plane.specs.declared.segment.Pair.{Pair}
-use Rattle.plane.specs.Geometry.{point, orientation, scalar, IsBetween, IsClear, IsBorderPair, AreCrossing}
+use Rattle.plane.specs.Geometry.{point, orientation, IsBetween, IsClear, IsBorderPair, AreCrossing}
 use Rattle.plane.specs.Accepted.{AreApart}
 use Rattle.partition_defs.specs.Partition.{Joins}
 use Rattle.partition_defs.specs.Triangulation.{IsTriangulation, IsApex}
 use Rattle.partition_defs.specs.Sweep.{IsSweptBefore, IsSweptBeforeLater, IsSweepPair, AreSweepPairs}
 use Rattle.plane_laws.proofs.Between.{between_is_amid, amid_is_between}
 use Rattle.triangulate.proofs.Field.{Setting, Laws, by_place}
-use Rattle.triangulate.proofs.Turns.{opposite_turned as opposite_signs}
+use Rattle.plane.proofs.laws.Opposite.{opposite_neg as opposite_signs}
 use Rattle.triangulate.proofs.Final.{All, apex_of, border_of, linked, met_of, plane_of}
 use Rattle.triangulate.proofs.Places.{sweep_setting, plane_laws, opposite_laws, opposite_turned}
 use Rattle.triangulate.specs.Sides.{Clear}
 use Rattle.triangulate.specs.State.{Links, Sweeps, Apex, Pairs, Whole}
 use Rattle.triangulate.specs.Swept.{opposite}
 use Rattle.triangulate.specs.SweepSet.{IsSweepSet}
+use Rattle.partition_defs.proofs.laws.Joined.{contains_joins}
+use Rattle.plane.proofs.laws.Area.{scalar_swap}
+use Rattle.number_laws.proofs.Naturals.{below_differs}
 
 -- the state of the sweep over the points S with all of them in it
 abbrev pub Swept : (S : List Point) → AreApart S → List Pair → (r r2 : List ℕ) → (z : ℕ) → Type 0
 Swept S apart T r r2 z = Whole (length S) (IsSweptBefore S) (orientation S) (opposite S) (Joins T) r r2 z
 
-pub joins_own : (T : List Pair) (e : Pair) → Contains T e → Joins T e.lo e.hi
-joins_own T e h = (h.0, e, h.1, h.2, inl (refl, refl))
-
 zero_round : (x y v : ℤ) → y ≡ x → v ≡ neg_ℤ y → x ≡ pos 0 → v ≡ pos 0
 zero_round x y v e f h = omega (arith, ints)
-
-scalar_swap : (p q r : Point) → scalar p q r ≡ scalar p r q
-unfolding scalar
-scalar_swap p q r = ap₂ (λ x y. x +ℤ y) (*ℤ_comm (q.x -ℤ p.x) (r.x -ℤ p.x)) (*ℤ_comm (q.y -ℤ p.y) (r.y -ℤ p.y))
 
 pub between_swap : (S : List Point) (apart : AreApart S) (k i j : ℕ) → IsBetween S k i j → IsBetween S k j i
 between_swap S apart k i j h =
@@ -86,7 +80,7 @@ sweep_pair_of S apart T r r2 z m i j k =
     (λ h. sweep_pair_swap S apart j i (sweep_pair_ordered S apart j i h (M.sweeps j i (M.back i j k) h)))
 
 pub are_sweep_pairs : (S : List Point) (apart : AreApart S) (T : List Pair) (r r2 : List ℕ) (z : ℕ) → Swept S apart T r r2 z → AreSweepPairs S T
-are_sweep_pairs S apart T r r2 z m e h = sweep_pair_of S apart T r r2 z m e.lo e.hi (joins_own T e h)
+are_sweep_pairs S apart T r r2 z m e h = sweep_pair_of S apart T r r2 z m e.lo e.hi (contains_joins T e h)
 
 border_ordered : (S : List Point) (apart : AreApart S) (T : List Pair) (r r2 : List ℕ) (z : ℕ) → Swept S apart T r r2 z → All (sweep_setting S apart) z
     → (i j : ℕ) → i < length S → j < length S → IsSweptBefore S i j → IsBorderPair S i j → Links z r i j ⊎ Links z r2 i j
@@ -106,9 +100,6 @@ border_links S apart T r r2 z m all i j iN jn hne h =
     (λ e. absurd (hne e))
     (λ p. inr (border_ordered S apart T r r2 z m all j i jn iN p (border_swap S apart i j h)))
 
-less_differ : (i j : ℕ) → i < j → i ≢ j
-less_differ i j h e = omega arith
-
 met_in : (S : List Point) (apart : AreApart S) (T : List Pair) (r r2 : List ℕ) (z : ℕ) → Swept S apart T r r2 z → (p : ℕ) → (q : ℕ) × Joins T p q → (q : ℕ) × (q < length S) × Joins T p q
 met_in S apart T r r2 z m p h =
     let M : Pairs (length S) (IsSweptBefore S) (orientation S) (Joins T) z = m.pairs in
@@ -123,10 +114,10 @@ is_triangulation S apart T r r2 z u m all un hu =
     let E : Setting = sweep_setting S apart in
     let M : Pairs E.n E.B (orientation S) (Joins T) z = m.pairs in
     record {
-      within = λ e h. M.in_first e.hi e.lo (M.back e.lo e.hi (joins_own T e h));
-      clear = λ e h. (sweep_pair_of S apart T r r2 z m e.lo e.hi (joins_own T e h)).0;
-      plane = λ e f he hf. plane_of E (orientation S) (plane_laws S apart) (Joins T) z M e.lo e.hi f.lo f.hi (joins_own T e he) (joins_own T f hf);
-      border = λ i j hij jn h. elim (border_links S apart T r r2 z m all i j (omega arith) jn (less_differ i j hij) h) [
+      within = λ e h. M.in_first e.hi e.lo (M.back e.lo e.hi (contains_joins T e h));
+      clear = λ e h. (sweep_pair_of S apart T r r2 z m e.lo e.hi (contains_joins T e h)).0;
+      plane = λ e f he hf. plane_of E (orientation S) (plane_laws S apart) (Joins T) z M e.lo e.hi f.lo f.hi (contains_joins T e he) (contains_joins T f hf);
+      border = λ i j hij jn h. elim (border_links S apart T r r2 z m all i j (omega arith) jn (below_differs i j hij) h) [
         | inl k ↦ linked E (orientation S) (opposite S) (Joins T) r r2 z m i j k
         | inr k ↦ M.back j i (linked E (orientation S) (opposite S) (Joins T) r r2 z m j i k)
       ];
@@ -150,5 +141,5 @@ sweep_pair_joined S apart T r r2 z m all i j iN jn hne h =
 pub is_sweep_set : (S : List Point) (apart : AreApart S) (T : List Pair) (r r2 : List ℕ) (z : ℕ) → Swept S apart T r r2 z → All (sweep_setting S apart) z → IsSweepSet S T
 is_sweep_set S apart T r r2 z m all i j hij jn = (
   (λ k. sweep_pair_of S apart T r r2 z m i j k),
-  (λ h. sweep_pair_joined S apart T r r2 z m all i j (omega arith) jn (less_differ i j hij) h),
+  (λ h. sweep_pair_joined S apart T r r2 z m all i j (omega arith) jn (below_differs i j hij) h),
 )

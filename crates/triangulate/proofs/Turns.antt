@@ -7,13 +7,12 @@ use Rattle.plane.specs.Geometry.{AreOpposite}
 use Rattle.triangulate.proofs.Signs.{second_falls, third_falls, second_rises, first_rises}
 use Rattle.triangulate.proofs.Field.{Setting, Laws, flip, zero_ends, by_place}
 use Rattle.triangulate.specs.Sides.{AllLeft, Beyond, Cross}
+use Rattle.plane.proofs.laws.Opposite.{opposite_neg}
+use Rattle.number_laws.proofs.Signs.{positive_of_neg, zero_not_negative, zero_not_positive}
 
 -- the chain doesn't turn to the right at a
 abbrev pub Spine : (n : ℕ) (B : ℕ → ℕ → Type 0) (o : ℕ → ℕ → ℕ → ℤ) (a z : ℕ) → Type 0
 Spine n B o a z = (k l : ℕ) → k < n → l < n → B k a → B a l → B l z → pos 0 ≤ℤ o k a l
-
-pub negative : (x y : ℤ) → y ≡ neg_ℤ x → x <ℤ pos 0 → pos 0 <ℤ y
-negative x y e h = omega (arith, ints)
 
 pub not_positive : (x y : ℤ) → y ≡ neg_ℤ x → pos 0 ≤ℤ y → x ≤ℤ pos 0
 not_positive x y e h = omega (arith, ints)
@@ -26,11 +25,11 @@ pub beyond_side : (E : Setting) (o : ℕ → ℕ → ℕ → ℤ) → Laws E o �
     → AllLeft E.n E.B o (λ s. E.B s z) a b → o a b z <ℤ pos 0 → Beyond E.n E.B o a z
 beyond_side E o L a b z bn hab hbz left h s sn has hsz =
     by_place E s b sn bn
-    (λ p. negative (o a s z) (o a z s) (flip E o L a s z)
+    (λ p. positive_of_neg (o a s z) (o a z s) (flip E o L a s z)
     (second_falls (o a s b) (o a s z) (o a b z) (o s b z) (L.order a s b z has p hbz)
     (not_positive (o a s b) (o a b s) (flip E o L a s b) (left s sn hsz)) h))
-    (λ e. subst (λ x. pos 0 <ℤ o a z x) (sym e) (negative (o a b z) (o a z b) (flip E o L a b z) h))
-    (λ p. negative (o a s z) (o a z s) (flip E o L a s z)
+    (λ e. subst (λ x. pos 0 <ℤ o a z x) (sym e) (positive_of_neg (o a b z) (o a z b) (flip E o L a b z) h))
+    (λ p. positive_of_neg (o a s z) (o a z s) (flip E o L a s z)
     (third_falls (o a b s) (o a b z) (o a s z) (o b s z) (L.order a b s z hab p hsz) (left s sn hsz) h))
 
 -- a side's first point is on the spine
@@ -61,10 +60,6 @@ four_third : (a b c d y : ℤ) → AreInOrder a b c d → pos 0 ≤ℤ a → b <
 four_third a b c d y q ha hb hd e (inl h) = omega (arith, ints, h.0, h.1, q.sum)
 four_third a b c d y q ha hb hd e (inr h) = omega (arith, ints, h.0, h.1, q.sum)
 
-pub opposite_turned : (x y v w : ℤ) → v ≡ neg_ℤ x → w ≡ neg_ℤ y → AreOpposite x y → AreOpposite v w
-opposite_turned x y v w ev ew (inl h) = inr (omega (arith, ints, h.0), omega (arith, ints, h.1))
-opposite_turned x y v w ev ew (inr h) = inl (omega (arith, ints, h.0), omega (arith, ints, h.1))
-
 pub same_below : (x y : ℤ) → x ≡ y → x <ℤ pos 0 → y <ℤ pos 0
 same_below x y e h = omega (arith, ints)
 
@@ -73,12 +68,6 @@ same_above x y e h = omega (arith, ints)
 
 pub above_turned : (x y : ℤ) → y ≡ neg_ℤ x → pos 0 <ℤ y → x <ℤ pos 0
 above_turned x y e h = omega (arith, ints)
-
-pub no_sign : {P : Type 0} (x : ℤ) → x ≡ pos 0 → x <ℤ pos 0 → P
-no_sign x e h = absurd (omega (arith, ints))
-
-pub no_sign_above : {P : Type 0} (x : ℤ) → x ≡ pos 0 → pos 0 <ℤ x → P
-no_sign_above x e h = absurd (omega (arith, ints))
 
 pub two_signs : {P : Type 0} (x : ℤ) → x <ℤ pos 0 → pos 0 <ℤ x → P
 two_signs x g h = absurd (omega (arith, ints))
@@ -89,20 +78,20 @@ crosses_none : (E : Setting) (o : ℕ → ℕ → ℕ → ℤ) → Laws E o → 
 crosses_none E o L a z k l an kn ln haz hkz hlz beyond spine hk hl h =
     by_place E a k an kn
     (λ p. two_signs (o a z k) hk (beyond k kn p hkz))
-    (λ e. no_sign (o a z k) (subst (λ x. o a z x ≡ pos 0) e (zero_ends E o L a z)) hk)
+    (λ e. zero_not_negative (o a z k) (subst (λ x. o a z x ≡ pos 0) e (zero_ends E o L a z)) hk)
     (λ hka.
     let kaz : o k a z <ℤ pos 0 = same_below (o a z k) (o k a z) (L.cycle k a z) hk in
     by_place E a l an ln
     (λ p. four_third (o k a l) (o k a z) (o k l z) (o a l z) (o k l a) (L.order k a l z hka p hlz)
     (spine k l kn ln hka p hlz) kaz (above_turned (o a l z) (o a z l) (flip E o L a l z) hl) (flip E o L k a l) h)
-    (λ e. no_sign_above (o a z l) (subst (λ x. o a z x ≡ pos 0) e (zero_ends E o L a z)) hl)
+    (λ e. zero_not_positive (o a z l) (subst (λ x. o a z x ≡ pos 0) e (zero_ends E o L a z)) hl)
     (λ hla.
     let laz : pos 0 <ℤ o l a z = same_above (o a z l) (o l a z) (L.cycle l a z) hl in
     by_place E k l kn ln
     (λ p. four_first (o k l a) (o k l z) (o k a z) (o l a z) (L.order k l a z p hla haz) h kaz laz)
     (λ e. two_signs (o a z k) hk (subst (λ x. pos 0 <ℤ o a z x) (sym e) hl))
     (λ p. four_second (o l k a) (o l k z) (o l a z) (o k a z) (L.order l k a z p hka haz)
-    (opposite_turned (o k l a) (o k l z) (o l k a) (o l k z) (L.swap k l a) (L.swap k l z) h) laz kaz)))
+    (opposite_neg (o k l a) (o k l z) (o l k a) (o l k z) (L.swap k l a) (L.swap k l z) h) laz kaz)))
 
 pub no_crossing : (E : Setting) (o : ℕ → ℕ → ℕ → ℤ) → Laws E o → (a z k l : ℕ) → a < E.n → k < E.n → l < E.n → E.B a z → E.B k z → E.B l z
     → Beyond E.n E.B o a z → Spine E.n E.B o a z → ¬ Cross o a z k l
@@ -110,5 +99,5 @@ no_crossing E o L a z k l an kn ln haz hkz hlz beyond spine h =
     elim h.0 [
       | inl g ↦ crosses_none E o L a z k l an kn ln haz hkz hlz beyond spine g.0 g.1 h.1
       | inr g ↦ crosses_none E o L a z l k an ln kn haz hlz hkz beyond spine g.1 g.0
-          (opposite_turned (o k l a) (o k l z) (o l k a) (o l k z) (L.swap k l a) (L.swap k l z) h.1)
+          (opposite_neg (o k l a) (o k l z) (o l k a) (o l k z) (L.swap k l a) (L.swap k l z) h.1)
     ]

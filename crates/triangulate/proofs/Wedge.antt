@@ -2,35 +2,20 @@
 use Rattle.std.proofs.Common.{◌≡◌, ℕ, ℤ, pos, neg_ℤ, ◌<◌, ◌⊎◌, inl, inr, sym, ◌∙◌, ap, subst, arith}
 use Rattle.std.specs.Prelude.{◌<ℤ◌, ◌≤ℤ◌}
 use Rattle.std.proofs.lemmas.Int.{ints}
-use Rattle.number_laws.proofs.Signs.{by_sign}
+use Rattle.number_laws.proofs.Signs.{by_sign, positive_of_neg, zero_of_neg, zero_not_negative, zero_not_positive, weak_of_positive}
 use Rattle.triangulate.specs.Sides.{AllLeft, Clear, Beyond}
 use Rattle.triangulate.specs.State.{Sweeps}
 use Rattle.triangulate.proofs.Field.{Setting, Laws, flip, zero_ends, by_place}
 use Rattle.triangulate.proofs.Sides.{before_all, amid_all}
 
-turned_zero : (x y : ℤ) → x ≡ neg_ℤ y → x ≡ pos 0 → y ≡ pos 0
-turned_zero x y e h = omega (arith, ints)
-
 turned_low : (x y : ℤ) → y ≡ neg_ℤ x → pos 0 <ℤ x → y <ℤ pos 0
 turned_low x y e h = omega (arith, ints)
-
-turned_high : (x y : ℤ) → y ≡ neg_ℤ x → x <ℤ pos 0 → pos 0 <ℤ y
-turned_high x y e h = omega (arith, ints)
 
 weak_as : (x y : ℤ) → x ≡ y → pos 0 <ℤ x → pos 0 ≤ℤ y
 weak_as x y e h = omega (arith, ints)
 
-no_zero_high : {P : Type 0} (x : ℤ) → x ≡ pos 0 → pos 0 <ℤ x → P
-no_zero_high x e h = absurd (omega (arith, ints))
-
-no_zero_low : {P : Type 0} (x : ℤ) → x ≡ pos 0 → x <ℤ pos 0 → P
-no_zero_low x e h = absurd (omega (arith, ints))
-
 pub no_low : {P : Type 0} (x : ℤ) → pos 0 ≤ℤ x → x <ℤ pos 0 → P
 no_low x g h = absurd (omega (arith, ints))
-
-high_weak : (x : ℤ) → pos 0 <ℤ x → pos 0 ≤ℤ x
-high_weak x h = omega (arith, ints)
 
 -- the second number of a turn about z, from the first
 about : (E : Setting) (o : ℕ → ℕ → ℕ → ℤ) → Laws E o → (a z i : ℕ) → o i z a ≡ neg_ℤ (o a z i)
@@ -42,15 +27,15 @@ inside : (E : Setting) (o : ℕ → ℕ → ℕ → ℤ) → Laws E o → (a b z
 inside E o L a b z i an bn iN hab hbz hiz left clear h k ga gb =
     by_sign (o a b i)
     (λ p. k.alone a b an bn (E.trans a b z hab hbz) hbz
-    (inl (turned_low (o a z i) (o i z a) (about E o L a z i) ga, turned_high (o b z i) (o i z b) (about E o L b z i) gb), inr (p, h)))
+    (inl (turned_low (o a z i) (o i z a) (about E o L a z i) ga, positive_of_neg (o b z i) (o i z b) (about E o L b z i) gb), inr (p, h)))
     (λ p. by_place E i a iN an
     (λ q. before_all (o i a b) (o i a z) (o i b z) (o a b z) (L.order i a b z q hab hbz) (sym (L.cycle i a b) ∙ p) h (weak_as (o a z i) (o i a z) (L.cycle i a z) ga))
-    (λ e. no_zero_high (o a z i) (subst (λ x. o a z x ≡ pos 0) (sym e) (zero_ends E o L a z)) ga)
+    (λ e. zero_not_positive (o a z i) (subst (λ x. o a z x ≡ pos 0) (sym e) (zero_ends E o L a z)) ga)
     (λ q. by_place E i b iN bn
-    (λ u. clear i iN q u (turned_zero (o a b i) (o a i b) (flip E o L a i b) p))
-    (λ e. no_zero_low (o b z i) (subst (λ x. o b z x ≡ pos 0) (sym e) (zero_ends E o L b z)) gb)
+    (λ u. clear i iN q u (zero_of_neg (o a b i) (o a i b) (flip E o L a i b) p))
+    (λ e. zero_not_negative (o b z i) (subst (λ x. o b z x ≡ pos 0) (sym e) (zero_ends E o L b z)) gb)
     (λ u. amid_all (o a b i) (o a b z) (o a i z) (o b i z) (L.order a b i z hab u hiz) p h
-    (high_weak (o b i z) (turned_high (o b z i) (o b i z) (flip E o L b z i) gb)))))
+    (weak_of_positive (o b i z) (positive_of_neg (o b z i) (o b i z) (flip E o L b z i) gb)))))
     (λ p. no_low (o a b i) (left i iN hiz) p)
 
 pub wedge : (E : Setting) (o : ℕ → ℕ → ℕ → ℤ) → Laws E o → (a b z i : ℕ) → a < E.n → b < E.n → z < E.n → i < E.n → E.B a b → E.B b z → E.B i z

@@ -90,3 +90,10 @@ same_lists T U a b same =
     one_list T U (rises_of T a) (rises_of U b)
     (λ e h. has_joined U e ((same e.lo e.hi).0 (join_own T e h)))
     (λ e h. has_joined T e ((same e.lo e.hi).1 (join_own U e h)))
+
+pub joins_from : (T : List Pair) (e : Pair) (i j : ℕ) → Contains T e → HasEnds e i j → Joins T i j
+joins_from T e i j c h = (c.0, e, c.1, c.2, h)
+
+-- the pair that joins two ends is in the list
+pub joins_pair : (T : List Pair) (i j : ℕ) (h : Joins T i j) → Contains T h.1
+joins_pair T i j h = (h.0, h.2, h.3)

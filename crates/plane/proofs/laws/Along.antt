@@ -1,9 +1,9 @@
 -- Points along one line: which lies between which, and on which side of them another point lies.
-use Rattle.std.proofs.Common.{◌≡◌, ◌≢◌, ℤ, pos, ◌+ℤ◌, ◌-ℤ◌, ◌*ℤ◌, ◌<ℤ◌, ◌≤ℤ◌, ◌⊎◌, inl, inr, arith, sym, ◌∙◌, ap}
+use Rattle.std.proofs.Common.{ℕ, List, ◌≡◌, ◌≢◌, ℤ, pos, ◌+ℤ◌, ◌-ℤ◌, ◌*ℤ◌, ◌<ℤ◌, ◌≤ℤ◌, ◌⊎◌, inl, inr, arith, sym, ◌∙◌, ap}
 use Rattle.std.proofs.lemmas.Int.{ints}
 use Rattle.std.proofs.Math.IntN.{*ℤ_comm}
 use Rattle.plane.specs.declared.coordinates.Point.{Point}
-use Rattle.plane.specs.Geometry.{area, scalar, AreOpposite, LiesBetween}
+use Rattle.plane.specs.Geometry.{point, area, scalar, orientation, AreOpposite, LiesBetween, IsBetween}
 use Rattle.number_laws.proofs.Products.{mul_sub, mul_left_comm, zero_factor}
 use Rattle.number_laws.proofs.Signs.{negative_or, products_agree, positive_positive, positive_negative, negative_positive, negative_negative, zero_left, zero_right, difference_zero}
 use Rattle.plane.proofs.laws.Line.{same_point, collinear}
@@ -238,3 +238,15 @@ range_upward p q r h = in_range_of_product p.y q.y r.y (elim (steps_apart p q r 
       ])
   | inr o ↦ (let k = negative_of_opposite (q.y -ℤ p.y) (r.y -ℤ p.y) o.2 in omega (arith, ints))
 ])
+
+pub between_or_not : (S : List Point) (v w b : ℕ) → IsBetween S v w b ⊎ ¬ IsBetween S v w b
+between_or_not S v w b = elim (zero_or (orientation S w v b)) [
+  | inl e ↦ elim (negative_or (scalar (point S v) (point S w) (point S b))) [
+    | inl h ↦ inl (e, h)
+    | inr rest ↦ inr (λ on. elim rest [ inl z ↦ omega (arith, ints, on.1, z) | inr z ↦ omega (arith, ints, on.1, z) ])
+  ]
+  | inr ne ↦ inr (λ on. ne on.0)
+]
+  where
+    zero_or : (z : ℤ) → (z ≡ pos 0) ⊎ (z ≢ pos 0)
+    zero_or z = elim (negative_or z) [ inl h ↦ inr (omega (arith, ints)) | inr rest ↦ elim rest [ inl e ↦ inl e | inr h ↦ inr (omega (arith, ints)) ] ]

@@ -3,3 +3,4 @@ pub mod Truth
 pub mod Products
 pub mod Signs
 pub mod Crosses
+pub mod Sums

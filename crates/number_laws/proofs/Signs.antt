@@ -91,3 +91,22 @@ zero_not_positive x e h = absurd (omega (arith, ints))
 
 pub cancel_zero : (a b : ℤ) → pos 0 <ℤ a → a *ℤ b ≡ pos 0 → b ≡ pos 0
 cancel_zero a b ha h = zero_of_weak b (cancel_weak a b ha (omega (arith, ints))) (cancel_weak a (neg_ℤ b) ha (omega (arith, ints, mul_neg a b)))
+
+pub weak_of_zero : (x : ℤ) → x ≡ pos 0 → pos 0 ≤ℤ x
+weak_of_zero x e = omega (arith, ints)
+
+pub positive_same : (x y : ℤ) → x ≡ y → pos 0 <ℤ x → pos 0 <ℤ y
+positive_same x y e h = omega (arith, ints)
+
+pub weak_same : (x y : ℤ) → x ≡ y → pos 0 ≤ℤ x → pos 0 ≤ℤ y
+weak_same x y e h = omega (arith, ints)
+
+-- one of a number and its negative is positive where the other is negative
+pub turned_low : (x y : ℤ) → x ≡ neg_ℤ y → pos 0 <ℤ x → y <ℤ pos 0
+turned_low x y e h = omega (arith, ints)
+
+pub turned_high : (x y : ℤ) → x ≡ neg_ℤ y → x <ℤ pos 0 → pos 0 <ℤ y
+turned_high x y e h = omega (arith, ints)
+
+pub not_both_positive : {P : Type 0} (x y : ℤ) → x ≡ neg_ℤ y → pos 0 <ℤ x → pos 0 <ℤ y → P
+not_both_positive x y e g h = absurd (omega (arith, ints))

@@ -5,3 +5,4 @@ pub mod Sets
 pub mod Net
 pub mod Flips
 pub mod Needs
+pub mod Crossings

@@ -7,3 +7,4 @@ pub mod Pairs
 pub mod Quadruple
 pub mod Border
 pub mod Order
+pub mod Crossings

@@ -14,7 +14,8 @@ use Rattle.plane_laws.proofs.Orientations.{ahead}
 use Rattle.number_laws.proofs.Products.{neg_mul, neg_mul_neg}
 use Rattle.number_laws.proofs.Crosses.{neg_neg, neg_cross}
 
-dot : (ax ay bx by : ℤ) → ℤ
+-- the scalar product of two steps
+unfoldable pub dot : (ax ay bx by : ℤ) → ℤ
 dot ax ay bx by = ax *ℤ bx +ℤ ay *ℤ by
 
 dot_both : (ux uy wx wy : ℤ) → pos 0 <ℤ ux → pos 0 <ℤ wx → cross ux uy wx wy ≡ pos 0 → pos 0 <ℤ dot ux uy wx wy
@@ -40,20 +41,20 @@ pub area_is_cross : (p q r : Point) → area p q r ≡ cross (q.x -ℤ p.x) (q.y
 unfolding area
 area_is_cross p q r = refl
 
-scalar_is_dot : (p q r : Point) → scalar p q r ≡ dot (q.x -ℤ p.x) (q.y -ℤ p.y) (r.x -ℤ p.x) (r.y -ℤ p.y)
+pub scalar_is_dot : (p q r : Point) → scalar p q r ≡ dot (q.x -ℤ p.x) (q.y -ℤ p.y) (r.x -ℤ p.x) (r.y -ℤ p.y)
 unfolding scalar dot
 scalar_is_dot p q r = refl
 
 turned : (a b : ℤ) → b -ℤ a ≡ neg_ℤ (a -ℤ b)
 turned a b = omega (arith, ints)
 
-dot_turned : (ax ay bx by : ℤ) → dot (neg_ℤ ax) (neg_ℤ ay) (neg_ℤ bx) (neg_ℤ by) ≡ dot ax ay bx by
+pub neg_neg_dot : (ax ay bx by : ℤ) → dot (neg_ℤ ax) (neg_ℤ ay) (neg_ℤ bx) (neg_ℤ by) ≡ dot ax ay bx by
 unfolding dot
-dot_turned ax ay bx by = omega (arith, ints, neg_mul_neg ax bx, neg_mul_neg ay by)
+neg_neg_dot ax ay bx by = omega (arith, ints, neg_mul_neg ax bx, neg_mul_neg ay by)
 
-dot_half_turned : (ax ay bx by : ℤ) → dot (neg_ℤ ax) (neg_ℤ ay) bx by ≡ neg_ℤ (dot ax ay bx by)
+pub neg_dot : (ax ay bx by : ℤ) → dot (neg_ℤ ax) (neg_ℤ ay) bx by ≡ neg_ℤ (dot ax ay bx by)
 unfolding dot
-dot_half_turned ax ay bx by = omega (arith, ints, neg_mul ax bx, neg_mul ay by)
+neg_dot ax ay bx by = omega (arith, ints, neg_mul ax bx, neg_mul ay by)
 
 step_back : (p q : Point) → IsBefore q p → Ahead (neg_ℤ (q.x -ℤ p.x)) (neg_ℤ (q.y -ℤ p.y))
 step_back p q (inl h) = inl (omega (arith, ints))
@@ -66,7 +67,7 @@ scalar_before k a z ha hz h =
 
 scalar_behind : (k a z : Point) → IsBefore a k → IsBefore z k → area k a z ≡ pos 0 → pos 0 <ℤ scalar k a z
 scalar_behind k a z ha hz h =
-    rw (scalar_is_dot, ← dot_turned (a.x -ℤ k.x) (a.y -ℤ k.y) (z.x -ℤ k.x) (z.y -ℤ k.y))
+    rw (scalar_is_dot, ← neg_neg_dot (a.x -ℤ k.x) (a.y -ℤ k.y) (z.x -ℤ k.x) (z.y -ℤ k.y))
     (dot_ahead (neg_ℤ (a.x -ℤ k.x)) (neg_ℤ (a.y -ℤ k.y)) (neg_ℤ (z.x -ℤ k.x)) (neg_ℤ (z.y -ℤ k.y)) (step_back k a ha) (step_back k z hz)
     (neg_neg (a.x -ℤ k.x) (a.y -ℤ k.y) (z.x -ℤ k.x) (z.y -ℤ k.y) ∙ sym (area_is_cross k a z) ∙ h))
 
@@ -75,7 +76,7 @@ scalar_amid k a z ha hz h =
     let d : pos 0 <ℤ dot (neg_ℤ (a.x -ℤ k.x)) (neg_ℤ (a.y -ℤ k.y)) (z.x -ℤ k.x) (z.y -ℤ k.y) =
     dot_ahead (neg_ℤ (a.x -ℤ k.x)) (neg_ℤ (a.y -ℤ k.y)) (z.x -ℤ k.x) (z.y -ℤ k.y) (step_back k a ha) (ahead k z hz)
     (neg_cross (a.x -ℤ k.x) (a.y -ℤ k.y) (z.x -ℤ k.x) (z.y -ℤ k.y) ∙ ap neg_ℤ (sym (area_is_cross k a z) ∙ h)) in
-    omega (arith, ints, dot_half_turned (a.x -ℤ k.x) (a.y -ℤ k.y) (z.x -ℤ k.x) (z.y -ℤ k.y), scalar_is_dot k a z)
+    omega (arith, ints, neg_dot (a.x -ℤ k.x) (a.y -ℤ k.y) (z.x -ℤ k.x) (z.y -ℤ k.y), scalar_is_dot k a z)
 
 scalar_at_first : (k a z : Point) → k.x ≡ a.x → k.y ≡ a.y → scalar k a z ≡ pos 0
 unfolding scalar

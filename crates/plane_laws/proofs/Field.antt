@@ -3,8 +3,8 @@ use Rattle.std.proofs.Common.{◌≡◌, ◌≢◌, ℕ, ℤ, pos, neg_ℤ, ◌+
 use Rattle.std.specs.Prelude.{◌<ℤ◌, ◌≤ℤ◌}
 use Rattle.std.proofs.lemmas.Int.{ints}
 use Rattle.plane.specs.Geometry.{AreOpposite}
-use Rattle.number_laws.proofs.Signs.{by_sign}
-use Rattle.plane_laws.proofs.Sums.{second_high, second_low, first_weak, last_weak, last_high, last_low}
+use Rattle.number_laws.proofs.Signs.{by_sign, positive_same, turned_low, turned_high, weak_same, weak_of_positive, zero_of_own, zero_not_positive}
+use Rattle.number_laws.proofs.Sums.{second_high, second_low, first_weak, last_weak, last_high, last_low}
 
 -- the laws of the signs o, and of the points B strictly between two others
 pub record Laws (o : ℕ → ℕ → ℕ → ℤ) (B : ℕ → ℕ → ℕ → Type 0) : Type 0 where
@@ -33,33 +33,12 @@ over_turned o p q u v h = record { end = h.first; start = h.second; first = h.st
 abbrev pub Inside : (o : ℕ → ℕ → ℕ → ℤ) (p q r s : ℕ) → Type 0
 Inside o p q r s = (pos 0 ≤ℤ o p q s) × (pos 0 ≤ℤ o q r s) × (pos 0 ≤ℤ o r p s)
 
-pub same_high : (x y : ℤ) → x ≡ y → pos 0 <ℤ x → pos 0 <ℤ y
-same_high x y e h = omega (arith, ints)
-
-pub turned_low : (x y : ℤ) → x ≡ neg_ℤ y → pos 0 <ℤ x → y <ℤ pos 0
-turned_low x y e h = omega (arith, ints)
-
-pub turned_high : (x y : ℤ) → x ≡ neg_ℤ y → x <ℤ pos 0 → pos 0 <ℤ y
-turned_high x y e h = omega (arith, ints)
-
 -- a turned sign that isn't positive
 turned_weak : (x y : ℤ) → x ≡ neg_ℤ y → x ≤ℤ pos 0 → pos 0 ≤ℤ y
 turned_weak x y e h = omega (arith, ints)
 
 turned_weak_low : (x y : ℤ) → x ≡ neg_ℤ y → pos 0 ≤ℤ x → y ≤ℤ pos 0
 turned_weak_low x y e h = omega (arith, ints)
-
-same_weak : (x y : ℤ) → x ≡ y → pos 0 ≤ℤ x → pos 0 ≤ℤ y
-same_weak x y e h = omega (arith, ints)
-
-pub weak : (x : ℤ) → pos 0 <ℤ x → pos 0 ≤ℤ x
-weak x h = omega (arith, ints)
-
-zero_own : (x : ℤ) → x ≡ neg_ℤ x → x ≡ pos 0
-zero_own x h = omega (arith, ints)
-
-pub no_zero : {P : Type 0} (x : ℤ) → x ≡ pos 0 → pos 0 <ℤ x → P
-no_zero x e h = absurd (omega (arith, ints))
 
 pub by_high : {P : Type 0} (x : ℤ) → (pos 0 <ℤ x → P) → (x ≤ℤ pos 0 → P) → P
 by_high x f g = by_sign x f (λ p. g (omega (arith, ints))) (λ p. g (omega (arith, ints)))
@@ -75,10 +54,10 @@ module _ (o : ℕ → ℕ → ℕ → ℤ) (B : ℕ → ℕ → ℕ → Type 0) 
 
   -- the signs of the same three points in another order
   pub rot : (i j k : ℕ) → pos 0 <ℤ o i j k → pos 0 <ℤ o j k i
-  rot i j k h = same_high (o i j k) (o j k i) (sym (L.cycle i j k)) h
+  rot i j k h = positive_same (o i j k) (o j k i) (sym (L.cycle i j k)) h
 
   pub rot_back : (i j k : ℕ) → pos 0 <ℤ o i j k → pos 0 <ℤ o k i j
-  rot_back i j k h = same_high (o i j k) (o k i j) (L.cycle k i j) h
+  rot_back i j k h = positive_same (o i j k) (o k i j) (L.cycle k i j) h
 
   pub low_first : (i j k : ℕ) → pos 0 <ℤ o i j k → o j i k <ℤ pos 0
   low_first i j k h = turned_low (o i j k) (o j i k) (L.swap j i k) h
@@ -93,10 +72,10 @@ module _ (o : ℕ → ℕ → ℕ → ℤ) (B : ℕ → ℕ → ℕ → Type 0) 
   high_first i j k h = turned_high (o i j k) (o j i k) (L.swap j i k) h
 
   pub weak_rot : (i j k : ℕ) → pos 0 ≤ℤ o i j k → pos 0 ≤ℤ o j k i
-  weak_rot i j k h = same_weak (o i j k) (o j k i) (sym (L.cycle i j k)) h
+  weak_rot i j k h = weak_same (o i j k) (o j k i) (sym (L.cycle i j k)) h
 
   pub weak_rot_back : (i j k : ℕ) → pos 0 ≤ℤ o i j k → pos 0 ≤ℤ o k i j
-  weak_rot_back i j k h = same_weak (o i j k) (o k i j) (L.cycle k i j) h
+  weak_rot_back i j k h = weak_same (o i j k) (o k i j) (L.cycle k i j) h
 
   pub weak_low_first : (i j k : ℕ) → pos 0 ≤ℤ o i j k → o j i k ≤ℤ pos 0
   weak_low_first i j k h = turned_weak_low (o i j k) (o j i k) (L.swap j i k) h
@@ -145,17 +124,17 @@ module _ (o : ℕ → ℕ → ℕ → ℤ) (B : ℕ → ℕ → ℕ → Type 0) 
       (weak_low_ends r p v near) (low_last v u q h.second) side (low_ends p q v h.end) (rot u v p h.first))
 
   pub zero_first : (i j : ℕ) → o i j i ≡ pos 0
-  zero_first i j = L.cycle i i j ∙ zero_own (o i i j) (L.swap i i j)
+  zero_first i j = L.cycle i i j ∙ zero_of_own (o i i j) (L.swap i i j)
 
   pub zero_second : (i j : ℕ) → o i j j ≡ pos 0
-  zero_second i j = sym (L.cycle i j j) ∙ zero_own (o j j i) (L.swap j j i)
+  zero_second i j = sym (L.cycle i j j) ∙ zero_of_own (o j j i) (L.swap j j i)
 
   -- a point left of i to j is neither of the two
   pub left_first : (i j k : ℕ) → pos 0 <ℤ o i j k → k ≢ i
-  left_first i j k h e = no_zero (o i j i) (zero_first i j) (subst (λ x. pos 0 <ℤ o i j x) e h)
+  left_first i j k h e = zero_not_positive (o i j i) (zero_first i j) (subst (λ x. pos 0 <ℤ o i j x) e h)
 
   pub left_second : (i j k : ℕ) → pos 0 <ℤ o i j k → k ≢ j
-  left_second i j k h e = no_zero (o i j j) (zero_second i j) (subst (λ x. pos 0 <ℤ o i j x) e h)
+  left_second i j k h e = zero_not_positive (o i j j) (zero_second i j) (subst (λ x. pos 0 <ℤ o i j x) e h)
 
   -- A segment that enters a triangle over the side p-q ends in the closed triangle, or leaves it over one of the other two
   -- sides, or through the corner between them.
@@ -165,22 +144,22 @@ module _ (o : ℕ → ℕ → ℕ → ℤ) (B : ℕ → ℕ → ℕ → Type 0) 
       by_sign (o u v r)
       (λ s. by_high (o r q v)
       (λ t. second (record { end = t; start = near_second p q r u v ccw h t; first = s; second = h.second }))
-      (λ t. ends (on_left (weak (o u v r) s) (not_beyond r q v t))))
+      (λ t. ends (on_left (weak_of_positive (o u v r) s) (not_beyond r q v t))))
       (λ s. by_high (o r q v)
       (λ t. through (L.found q u v r s t (near_second p q r u v ccw h t)))
       (λ t. ends (on_left (zero_weak (o u v r) s) (not_beyond r q v t))))
       (λ s. by_high (o p r v)
       (λ t. last (record { end = t; start = near_last p q r u v ccw h t; first = h.first; second = high_first u v r s }))
-      (λ t. ends (on_right (weak (o v u r) (high_first u v r s)) (not_beyond p r v t))))
+      (λ t. ends (on_right (weak_of_positive (o v u r) (high_first u v r s)) (not_beyond p r v t))))
     where
       zero_weak : (x : ℤ) → x ≡ pos 0 → pos 0 ≤ℤ x
       zero_weak x e = omega (arith, ints)
 
       on_left : pos 0 ≤ℤ o u v r → pos 0 ≤ℤ o q r v → Inside o p q r v
-      on_left s t = (weak (o p q v) h.end, t, within_last p q r u v h s t)
+      on_left s t = (weak_of_positive (o p q v) h.end, t, within_last p q r u v h s t)
 
       on_right : pos 0 ≤ℤ o v u r → pos 0 ≤ℤ o r p v → Inside o p q r v
-      on_right s t = (weak (o p q v) h.end, within_second p q r u v h s t, t)
+      on_right s t = (weak_of_positive (o p q v) h.end, within_second p q r u v h s t, t)
 
   -- of two triangles on one side of p-q one has the other's third corner, or sides of theirs cross
   pub two_on_side : {P : Type 0} (p q r s : ℕ) → pos 0 <ℤ o p q r → pos 0 <ℤ o p q s
@@ -189,12 +168,12 @@ module _ (o : ℕ → ℕ → ℕ → ℤ) (B : ℕ → ℕ → ℕ → Type 0) 
       by_high (o r q s)
       (λ a. by_high (o r p s)
       (λ b. second (record { end = a; start = rot p q r hr; first = rot r p s b; second = rot_back p q s hs }))
-      (λ b. had (weak (o p q r) hr, weak (o q s r) (rot r q s a), weak_rot_back p r s (not_beyond r p s b))))
+      (λ b. had (weak_of_positive (o p q r) hr, weak_of_positive (o q s r) (rot r q s a), weak_rot_back p r s (not_beyond r p s b))))
       (λ a. by_high (o p r s)
       (λ b. by_high (o q r s)
       (λ c. last (record { end = b; start = rot_back p q r hr; first = rot p q s hs; second = rot_back q r s c }))
-      (λ c. had (weak (o p q r) hr, weak_rot r q s (not_beyond q r s c), weak (o s p r) (rot_back p r s b))))
-      (λ b. has (weak (o p q s) hs, not_beyond r q s a, not_beyond p r s b)))
+      (λ c. had (weak_of_positive (o p q r) hr, weak_rot r q s (not_beyond q r s c), weak_of_positive (o s p r) (rot_back p r s b))))
+      (λ b. has (weak_of_positive (o p q s) hs, not_beyond r q s a, not_beyond p r s b)))
 
   -- Where a d b c is a strictly convex quadrilateral, the triangle c d b lies in the triangles a b c and b a d.
   pub half : {P : Type 0} (a b c d s : ℕ) → pos 0 <ℤ o a b c → pos 0 <ℤ o b a d → pos 0 <ℤ o d c a → pos 0 <ℤ o c d b
@@ -202,7 +181,7 @@ module _ (o : ℕ → ℕ → ℕ → ℤ) (B : ℕ → ℕ → ℕ → Type 0) 
   half a b c d s hc hd ha hb h left right =
       by_high (o b a s)
       (λ t. right (
-        weak (o b a s) t,
+        weak_of_positive (o b a s) t,
         not_beyond d a s
             (last_low (o d c s) (o d a b) (o d b s) (o d a c) (o d c b) (o d a s)
             (L.five d a c b s)

@@ -1,15 +1,12 @@
 -- A strictly convex quadrilateral of two triangles without further points: its other diagonal, and the two new triangles.
 use Rattle.std.proofs.Common.{◌≡◌, ◌≢◌, ℕ, ℤ, pos, ◌<◌, inl, inr, subst, arith}
 use Rattle.std.specs.Prelude.{◌<ℤ◌, ◌≤ℤ◌}
-use Rattle.std.proofs.lemmas.Int.{ints}
 use Rattle.std.proofs.lemmas.Bool.{cases_order}
-use Rattle.plane_laws.proofs.Field.{Laws, Over, Inside, apart, weak, no_zero, rot_back, left_first, left_second, zero_second, exit, half}
+use Rattle.plane_laws.proofs.Field.{Laws, Over, Inside, apart, rot_back, left_first, left_second, zero_second, exit, half}
+use Rattle.number_laws.proofs.Signs.{weak_of_zero, weak_of_positive, zero_not_positive}
 
 pub same_or : {P : Type 0} (i j : ℕ) → (i ≡ j → P) → (i ≢ j → P) → P
 same_or i j f g = elim (cases_order i j) [ inl e ↦ f e | inr q ↦ elim q [ inl h ↦ g (λ e. omega arith) | inr h ↦ g (λ e. omega arith) ] ]
-
-zero_weak : (x : ℤ) → x ≡ pos 0 → pos 0 ≤ℤ x
-zero_weak x e = omega (arith, ints)
 
 -- no further point is in the triangle
 abbrev pub Empty : (n : ℕ) (o : ℕ → ℕ → ℕ → ℤ) (p q r : ℕ) → Type 0
@@ -51,13 +48,13 @@ module _ (n : ℕ) (o : ℕ → ℕ → ℕ → ℤ) (B : ℕ → ℕ → ℕ �
   clear_after a b c d Q k kn h =
       let (x, y) = L.cut b k c d h (rot_back o B L c d b Q.second) in
       empty_after a b c d Q k kn
-      (λ e. no_zero (o b c c) (zero_second o B L b c) (subst (λ z. pos 0 <ℤ o b c z) e x))
+      (λ e. zero_not_positive (o b c c) (zero_second o B L b c) (subst (λ z. pos 0 <ℤ o b c z) e x))
       (left_last y)
-      (λ e. no_zero (o c d b) (subst (λ z. o c d z ≡ pos 0) e (L.on k c d h)) Q.second)
-      (zero_weak (o c d k) (L.on k c d h), weak (o d b k) (rot_back o B L b k d y), weak (o b c k) x)
+      (λ e. zero_not_positive (o c d b) (subst (λ z. o c d z ≡ pos 0) e (L.on k c d h)) Q.second)
+      (weak_of_zero (o c d k) (L.on k c d h), weak_of_positive (o d b k) (rot_back o B L b k d y), weak_of_positive (o b c k) x)
     where
       left_last : pos 0 <ℤ o b k d → k ≢ d
-      left_last y e = no_zero (o b d d) (zero_second o B L b d) (subst (λ z. pos 0 <ℤ o b z d) e y)
+      left_last y e = zero_not_positive (o b d d) (zero_second o B L b d) (subst (λ z. pos 0 <ℤ o b z d) e y)
 
   -- a segment that crosses the other diagonal ends at b, crosses one of the two sides at b, or goes through b
   pub end_after : {P : Type 0} (a b c d u v : ℕ) → Four n o a b c d → v < n → Over o c d u v

@@ -3,7 +3,6 @@ pub mod Steps
 pub mod Orientations
 pub mod Between
 pub mod Separation
-pub mod Sums
 pub mod Field
 pub mod Four
 pub mod Places

@@ -6,7 +6,7 @@ use Rattle.plane.specs.declared.coordinates.Point.{Point}
 use Rattle.plane.specs.Geometry.{point, area, orientation, LiesBetween, IsBetween}
 use Rattle.plane.proofs.laws.Along.{between_swap, other_side, other_side_right, one_between}
 use Rattle.plane.proofs.laws.Area.{area_cycle, area_back, area_first, area_second}
-use Rattle.number_laws.proofs.Signs.{zero_right}
+use Rattle.number_laws.proofs.Signs.{zero_right, zero_not_positive, positive_same, turned_high, turned_low, not_both_positive}
 use Rattle.plane_laws.proofs.Orientations.{area_four}
 use Rattle.plane_laws.proofs.Separation.{weigh}
 use Rattle.plane_laws.proofs.Field.{Laws, by_high}
@@ -41,34 +41,19 @@ sum_signs s a b e h k = omega (arith, ints)
 split_sum : (s a b z z2 : ℤ) → s +ℤ z ≡ a +ℤ b → z ≡ pos 0 → s ≡ a +ℤ b
 split_sum s a b z z2 e h = omega (arith, ints)
 
-high_same : (x y : ℤ) → x ≡ y → pos 0 <ℤ x → pos 0 <ℤ y
-high_same x y e h = omega (arith, ints)
-
-high_turned : (x y : ℤ) → x ≡ neg_ℤ y → x <ℤ pos 0 → pos 0 <ℤ y
-high_turned x y e h = omega (arith, ints)
-
-low_turned : (x y : ℤ) → x ≡ neg_ℤ y → pos 0 <ℤ x → y <ℤ pos 0
-low_turned x y e h = omega (arith, ints)
-
 -- k between c and d cuts the triangle x c d in two
 cut : (x k c d : Point) → LiesBetween k c d → pos 0 <ℤ area x c d → (pos 0 <ℤ area x c k) × (pos 0 <ℤ area x k d)
 cut x k c d h whole =
     let flat : area c k d ≡ pos 0 = h.0 in
     let sum : area x c d ≡ area x c k +ℤ area x k d = sums (area x c k) (area x k d) (area x c d) (area c k d) (area_four x c k d) flat in
     by_high (area x c k)
-    (λ s. (s, high_turned (area k x d) (area x k d) (swapped x k d) (other_side_right k d c x (between_swap k c d h) (high_same (area x c k) (area k x c) (cycle k x c) s))))
+    (λ s. (s, turned_high (area k x d) (area x k d) (swapped x k d) (other_side_right k d c x (between_swap k c d h) (positive_same (area x c k) (area k x c) (cycle k x c) s))))
     (λ s. (let t : pos 0 <ℤ area x k d = sum_signs (area x c d) (area x c k) (area x k d) sum whole s in
-    let u : pos 0 <ℤ area k x c = other_side k c d x h (low_turned (area x k d) (area k x d) (swapped k x d) t) in
-    (high_same (area k x c) (area x c k) (sym (cycle k x c)) u, t)))
+    let u : pos 0 <ℤ area k x c = other_side k c d x h (turned_low (area x k d) (area k x d) (swapped k x d) t) in
+    (positive_same (area k x c) (area x c k) (sym (cycle k x c)) u, t)))
   where
     sums : (a b s z : ℤ) → a +ℤ b ≡ s +ℤ z → z ≡ pos 0 → s ≡ a +ℤ b
     sums a b s z e g = omega (arith, ints)
-
-not_both : {P : Type 0} (x y : ℤ) → x ≡ neg_ℤ y → pos 0 <ℤ x → pos 0 <ℤ y → P
-not_both x y e g h = absurd (omega (arith, ints))
-
-no_zero : {P : Type 0} (x : ℤ) → x ≡ pos 0 → pos 0 <ℤ x → P
-no_zero x e h = absurd (omega (arith, ints))
 
 -- r in line with u and v, and these on the two sides of a line through r: then r is between them
 found : (x u v r : Point) → area u v r ≡ pos 0 → pos 0 <ℤ area r x v → pos 0 <ℤ area x r u → LiesBetween r u v
@@ -78,21 +63,21 @@ found x u v r flat right left =
     elim (one_between r u v ru rv uv (sym (cycle r u v) ∙ flat)) [
       | inl h ↦ h
       | inr rest ↦ elim rest [
-        | inl h ↦ (let (p, q) = cut x u v r (between_swap u r v h) (high_same (area r x v) (area x v r) (sym (cycle r x v)) right) in
-            not_both (area x u r) (area x r u) (area_flip x r u) q left)
+        | inl h ↦ (let (p, q) = cut x u v r (between_swap u r v h) (positive_same (area r x v) (area x v r) (sym (cycle r x v)) right) in
+            not_both_positive (area x u r) (area x r u) (area_flip x r u) q left)
         | inr h ↦ (let (p, q) = cut x v r u h left in
-            not_both (area x r v) (area r x v) (swapped r x v) p right)
+            not_both_positive (area x r v) (area r x v) (swapped r x v) p right)
       ]
     ]
   where
     ru : r ≢ u
-    ru e = no_zero (area x r r) (area_second x r) (high_same (area x r u) (area x r r) (ap (λ (z : Point). area x r z) (sym e)) left)
+    ru e = zero_not_positive (area x r r) (area_second x r) (positive_same (area x r u) (area x r r) (ap (λ (z : Point). area x r z) (sym e)) left)
 
     rv : r ≢ v
-    rv e = no_zero (area r x r) (area_first r x) (high_same (area r x v) (area r x r) (ap (λ (z : Point). area r x z) (sym e)) right)
+    rv e = zero_not_positive (area r x r) (area_first r x) (positive_same (area r x v) (area r x r) (ap (λ (z : Point). area r x z) (sym e)) right)
 
     uv : u ≢ v
-    uv e = not_both (area x r u) (area r x u) (swapped r x u) left (high_same (area r x v) (area r x u) (ap (λ (z : Point). area r x z) (sym e)) right)
+    uv e = not_both_positive (area x r u) (area r x u) (swapped r x u) left (positive_same (area r x v) (area r x u) (ap (λ (z : Point). area r x z) (sym e)) right)
 
 -- the points of a list
 pub plane_laws : (S : List Point) → Laws (orientation S) (IsBetween S)

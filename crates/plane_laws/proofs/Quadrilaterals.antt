@@ -1,17 +1,14 @@
 -- Triangles and quadrilaterals of points, without any set of segments.
-use Rattle.std.proofs.Common.{◌≡◌, ℕ, ℤ, pos, neg_ℤ, ◌<◌, ◌⊎◌, inl, inr, List, length, arith}
+use Rattle.std.proofs.Common.{◌≡◌, ℕ, pos, ◌<◌, ◌⊎◌, inl, inr, List, length}
 use Rattle.std.specs.Prelude.{◌<ℤ◌}
-use Rattle.std.proofs.lemmas.Int.{ints}
 use Rattle.plane.specs.declared.coordinates.Point.{Point}
 use Rattle.plane.specs.Geometry.{point, orientation, AreCrossing, IsBetween, IsClear, IsInTriangle, IsEmptyTriangle}
 use Rattle.plane.proofs.laws.Along.{between_swap}
 use Rattle.plane_laws.specs.Quads.{AreEnds, IsConvexQuad, CrossesSide}
-use Rattle.plane_laws.proofs.Field.{Laws, Over, over_back, turned_high, over_of, over_cross, over_cross_back, exit}
+use Rattle.plane_laws.proofs.Field.{Laws, Over, over_back, over_of, over_cross, over_cross_back, exit}
 use Rattle.plane_laws.proofs.Four.{Four, four_turned, over_after, empty_after, clear_after, end_after}
 use Rattle.plane_laws.proofs.Places.{plane_laws}
-
-no_both : {P : Type 0} (x y : ℤ) → x ≡ neg_ℤ y → pos 0 <ℤ x → pos 0 <ℤ y → P
-no_both x y e g h = absurd (omega (arith, ints))
+use Rattle.number_laws.proofs.Signs.{not_both_positive, turned_high}
 
 crossing : (S : List Point) (p q u v : ℕ) → Over (orientation S) p q u v → AreCrossing S p q u v
 crossing S p q u v x = over_cross (orientation S) (IsBetween S) (plane_laws S) p q u v x
@@ -29,7 +26,7 @@ leaves S p q r u v ccw x beyond =
     (λ g. inr (inl (crossing_back S q r u v g)))
     (λ g. inr (inr (inl (crossing_back S r p u v g))))
     (λ g. inr (inr (inr g))))
-    (λ y. no_both (orientation S q p v) (orientation S p q v) (L.swap p q v) y.end beyond)
+    (λ y. not_both_positive (orientation S q p v) (orientation S p q v) (L.swap p q v) y.end beyond)
 
 four_of : (S : List Point) (a b c d : ℕ) → IsConvexQuad S a b c d → Four (length S) (orientation S) a b c d
 four_of S a b c d h = record {

@@ -14,6 +14,7 @@ use Rattle.plane_laws.proofs.Between.{by_order}
 use Rattle.plane_laws.proofs.Orientations.{det, area_sides, area_four, all_in_line}
 use Rattle.plane.proofs.laws.Opposite.{not_opposite_zero, opposite_same}
 use Rattle.plane.proofs.laws.Line.{same_point}
+use Rattle.number_laws.proofs.Sums.{positive_low}
 
 -- two steps' products with a third: across, and upward
 across : (a b c : Point) → det b c *ℤ a.x +ℤ det a b *ℤ c.x ≡ det a c *ℤ b.x
@@ -94,9 +95,6 @@ zero_of_scaled : (k f : ℤ) → pos 0 <ℤ k → f ≤ℤ pos 0 → pos 0 ≤�
 zero_of_scaled k f hk hf h = by_sign f (λ p. absurd (omega (arith, ints))) (λ p. p)
     (λ p. absurd (omega (arith, ints, positive_positive k (neg_ℤ f) hk (omega (arith, ints)), mul_neg k f)))
 
-at_most : (k f : ℤ) → pos 0 <ℤ k → f ≤ℤ pos 0 → (k *ℤ f) ≤ℤ pos 0
-at_most k f hk hf = omega (arith, ints, mul_weak k (neg_ℤ f) (omega (arith, ints)) (omega (arith, ints)), mul_neg k f)
-
 neg_zero : (x : ℤ) → neg_ℤ x ≡ pos 0 → x ≡ pos 0
 neg_zero x h = omega (arith, ints)
 
@@ -104,8 +102,8 @@ neg_zero x h = omega (arith, ints)
 balance : (k l m n a b c d : ℤ) → pos 0 <ℤ k → pos 0 <ℤ l → pos 0 <ℤ m → pos 0 <ℤ n → a ≤ℤ pos 0 → b ≤ℤ pos 0 → pos 0 ≤ℤ c → pos 0 ≤ℤ d
     → k *ℤ a +ℤ l *ℤ b ≡ m *ℤ c +ℤ n *ℤ d → (a ≡ pos 0) × (b ≡ pos 0) × (c ≡ pos 0) × (d ≡ pos 0)
 balance k l m n a b c d hk hl hm hn ha hb hc hd h =
-    let ka : (k *ℤ a) ≤ℤ pos 0 = at_most k a hk ha in
-    let lb : (l *ℤ b) ≤ℤ pos 0 = at_most l b hl hb in
+    let ka : (k *ℤ a) ≤ℤ pos 0 = positive_low k a hk ha in
+    let lb : (l *ℤ b) ≤ℤ pos 0 = positive_low l b hl hb in
     let mc : pos 0 ≤ℤ (m *ℤ c) = mul_weak m c (omega (arith, ints)) hc in
     let nd : pos 0 ≤ℤ (n *ℤ d) = mul_weak n d (omega (arith, ints)) hd in (
       zero_of_scaled k a hk ha (omega (arith, ints)),

@@ -14,4 +14,3 @@ pub mod Dropped
 pub mod Marked
 pub mod Moved
 pub mod Halving
-pub mod Crossings

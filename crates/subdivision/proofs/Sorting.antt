@@ -19,7 +19,7 @@ use Rattle.plane.proofs.laws.Area.{area_swap}
 use Rattle.plane.proofs.laws.Pairs.{pair_same}
 use Rattle.star.specs.Turn.{TurnsBefore, IsBeforeInTurn}
 use Rattle.star.specs.Stars.{Seen, entry}
-use Rattle.star.proofs.laws.Turning.{not_both}
+use Rattle.star.proofs.laws.Turning.{not_both, never_before_itself}
 use Rattle.partition_defs.specs.Ascending.{ComesFirst, IsAscending}
 use Rattle.subdivision.specs.State.{star_at, has, keeps, AreAgreed}
 use Rattle.subdivision.specs.Listing.{picks, picked_of, IsTidy, AreTidy, HasRows, IsSortedFrom}
@@ -121,10 +121,6 @@ sorted_rows false stars list new tidy rows so =
     (λ e h. (let r = (rows.members e).0 ((so.members e).0 (contains_of new e h)) in choose (λ e. has (star_at stars e.lo) e.hi) (length stars) e (high_of false stars e tidy r.1 r.2) r.2))
     (λ e h. (let r = chosen (λ e. has (star_at stars e.lo) e.hi) (length stars) e h in has_of new e ((so.members e).1 ((rows.members e).1 (omega (arith, r.0, e.ordered), omega (arith, r.0, e.ordered), r.1)))))
 
-never_before : (c q : Point) → ¬ TurnsBefore c q q
-never_before c q (inl h) = not_both c q h.0 h.1
-never_before c q (inr h) = let e = area_swap c q q in omega (arith, ints, h.1)
-
 -- the stars of a subdivision are tidy
 pub tidy_of : (S : List Point) (stars : List Seen) → AreAgreed S stars → AreTidy stars
 tidy_of S stars (T, K, so) v hv =
@@ -132,7 +128,7 @@ tidy_of S stars (T, K, so) v hv =
     let s = star_at stars v in (
       star.centre,
       (
-        λ i j ij hj same. never_before (point s.points s.centre) (point s.points (entry s.list j).0) (subst (λ x. IsBeforeInTurn s.points s.centre x (entry s.list j).0) same (star.star.order i j ij hj)),
+        λ i j ij hj same. never_before_itself (point s.points s.centre) (point s.points (entry s.list j).0) (subst (λ x. IsBeforeInTurn s.points s.centre x (entry s.list j).0) same (star.star.order i j ij hj)),
         λ k h. subst (λ n. (entry s.list k).0 < n) (ap length star.points ∙ sym so.round.0) (star.star.within k h),
       ),
     )

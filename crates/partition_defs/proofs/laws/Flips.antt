@@ -4,8 +4,7 @@ use Rattle.std.specs.List.{Contains}
 use Rattle.std.proofs.lemmas.Bool.{cases_order}
 use Rattle.plane.specs.declared.coordinates.Point.{Point}
 use Rattle.plane.specs.declared.segment.Pair.{Pair}
-use Rattle.plane.specs.Geometry.{point, orientation, AreCrossing, IsBetween, IsClear, IsBorderPair}
-use Rattle.plane.proofs.laws.Along.{between_swap}
+use Rattle.plane.specs.Geometry.{orientation, AreCrossing, IsBetween, IsClear, IsBorderPair}
 use Rattle.partition_defs.specs.Partition.{HasEnds, Joins}
 use Rattle.partition_defs.specs.Triangulation.{IsTriangulation, IsApex}
 use Rattle.partition_defs.proofs.laws.Has.{has_of, contains_of}
@@ -14,13 +13,12 @@ use Rattle.partition_defs.proofs.laws.Joined.{joined, join_own, join_back, one_p
 use Rattle.partition_defs.proofs.laws.Sets.{joins_without, without_joins, joins_with, with_joins, with_joins_own}
 use Rattle.plane_laws.specs.Quads.{AreEnds}
 use Rattle.partition_defs.specs.Flips.{IsFlippable, IsFlip, IsFlipped}
-use Rattle.plane_laws.proofs.Field.{Laws, Over, apart, over_back, over_turned, turned_high, turned_low, over_of, over_cross, over_cross_back}
+use Rattle.plane_laws.proofs.Field.{Laws, Over, apart, over_back, over_turned, over_of, over_cross, over_cross_back}
 use Rattle.plane_laws.proofs.Four.{clear_after, over_after}
 use Rattle.partition_defs.proofs.laws.Net.{Apex, Net, Quad, Flipped, ends_turned, apex_once, apex_next, four_of, alone_after, quad_of, quad_turned, flipped_turned, first_side, net_after}
 use Rattle.plane_laws.proofs.Places.{plane_laws}
-
-pub clear_swap : (S : List Point) (i j : ℕ) → IsClear S i j → IsClear S j i
-clear_swap S i j h k kn b = h k kn (between_swap (point S k) (point S j) (point S i) b)
+use Rattle.plane.proofs.laws.Border.{clear_back}
+use Rattle.number_laws.proofs.Signs.{turned_high, turned_low}
 
 pub joins_in : (S : List Point) (T : List Pair) → IsTriangulation S T → (i j : ℕ) → Joins T i j → i < length S
 joins_in S T tri i j h =
@@ -34,7 +32,7 @@ joins_clear S T tri i j h =
     let c : IsClear S e.lo e.hi = tri.clear e (contains_of T e m) in
     elim ends [
       | inl w ↦ subst (λ x. IsClear S x j) w.0 (subst (λ x. IsClear S e.lo x) w.1 c)
-      | inr w ↦ clear_swap S j i (subst (λ x. IsClear S x i) w.0 (subst (λ x. IsClear S e.lo x) w.1 c))
+      | inr w ↦ clear_back S j i (subst (λ x. IsClear S x i) w.0 (subst (λ x. IsClear S e.lo x) w.1 c))
     ]
 
 put : (o : ℕ → ℕ → ℕ → ℤ) (p q u v i j k l : ℕ) → p ≡ i → q ≡ j → u ≡ k → v ≡ l → Over o i j k l → Over o p q u v
@@ -69,7 +67,7 @@ net_of S T tri = record {
     | inl e ↦ absurd (ne e)
     | inr q ↦ elim q [
       | inl h ↦ tri.border i j h hj (clear, inl left)
-      | inr h ↦ join_back T j i (tri.border j i h hi (clear_swap S i j clear, inr left))
+      | inr h ↦ join_back T j i (tri.border j i h hi (clear_back S i j clear, inr left))
     ]
   ];
   met = λ i hi. (let (q, qn, h) = tri.met i hi in (q, h));
@@ -88,7 +86,7 @@ net_to S T N = record {
       (λ y. N.plane e.hi e.lo f.lo f.hi (N.back e.lo e.hi (own T e he)) (own T f hf) y);
   border = λ i j ij jn h. elim h.1 [
     | inl left ↦ N.border i j (omega arith) jn (differ i j ij) h.0 left
-    | inr left ↦ N.back j i (N.border j i jn (omega arith) (λ e. differ i j ij (sym e)) (clear_swap S i j h.0) left)
+    | inr left ↦ N.back j i (N.border j i jn (omega arith) (λ e. differ i j ij (sym e)) (clear_back S i j h.0) left)
   ];
   met = λ p pn. (let (q, h) = N.met p pn in (q, N.within q p (N.back p q h), h));
   apex = λ p q j h. (let (r, a) = N.apex p q h.0 j h.1 h.2 in (r, apex_to S T p q r a));
@@ -151,10 +149,10 @@ triangulation_after S T U tri a b c d h f =
 pub quad_of_flip : (S : List Point) (T : List Pair) → IsTriangulation S T → (a b u v : ℕ) → IsFlip S T a b u v → IsFlippable S T a b u v ⊎ IsFlippable S T a b v u
 quad_of_flip S T tri a b u v h =
     over_of (orientation S) (IsBetween S) (plane_laws S) u v a b h.crosses.0 h.crosses.1
-    (λ x. inl (quad_to S T a b u v (quad_of (length S) (orientation S) (IsBetween S) (plane_laws S) (Joins T) (net_of S T tri) a b v u h.joined h.d_in h.c_in (clear_swap S u v h.clear) h.clear
+    (λ x. inl (quad_to S T a b u v (quad_of (length S) (orientation S) (IsBetween S) (plane_laws S) (Joins T) (net_of S T tri) a b v u h.joined h.d_in h.c_in (clear_back S u v h.clear) h.clear
     (over_turned (orientation S) u v a b x)
     (λ i j k y. h.alone i j k (over_cross (orientation S) (IsBetween S) (plane_laws S) u v i j (over_back (orientation S) v u j i (over_turned (orientation S) i j v u y)))))))
-    (λ x. inr (quad_to S T a b v u (quad_of (length S) (orientation S) (IsBetween S) (plane_laws S) (Joins T) (net_of S T tri) a b u v h.joined h.c_in h.d_in h.clear (clear_swap S u v h.clear)
+    (λ x. inr (quad_to S T a b v u (quad_of (length S) (orientation S) (IsBetween S) (plane_laws S) (Joins T) (net_of S T tri) a b u v h.joined h.c_in h.d_in h.clear (clear_back S u v h.clear)
     (over_turned (orientation S) v u a b x)
     (λ i j k y. h.alone i j k (over_cross_back (orientation S) (IsBetween S) (plane_laws S) u v i j (over_back (orientation S) u v j i (over_turned (orientation S) i j u v y)))))))
 
@@ -233,7 +231,7 @@ flip_swap S T a b c d h = record {
   d_in = h.c_in;
   joined = h.joined;
   fresh = λ k. h.fresh (join_back T d c k);
-  clear = clear_swap S c d h.clear;
+  clear = clear_back S c d h.clear;
   crosses = crossing_swap_first S c d a b h.crosses;
   alone = λ i j k x. h.alone i j k (crossing_swap_first S d c i j x);
 }

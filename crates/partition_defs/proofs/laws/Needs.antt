@@ -17,6 +17,7 @@ use Rattle.partition_defs.specs.Partition.{HasEnds, Joins, IsMet, MeetsNeedsAt, 
 use Rattle.partition_defs.specs.Triangulation.{IsTriangulation}
 use Rattle.partition_defs.proofs.laws.Has.{Has, contains_of}
 use Rattle.partition_defs.proofs.laws.Joined.{joined, joins_of, one_other}
+use Rattle.number_laws.proofs.Sums.{positive_low}
 
 weak_product : (a b : ℤ) → a ≤ℤ pos 0 → b ≤ℤ pos 0 → pos 0 ≤ℤ (a *ℤ b)
 weak_product a b ha hb = elim (negative_or a) [
@@ -25,12 +26,6 @@ weak_product a b ha hb = elim (negative_or a) [
     | inr rest ↦ elim rest [ inl y ↦ (let h = zero_right a b y in omega (arith, ints)) | inr y ↦ absurd (omega (arith, ints)) ]
   ]
   | inr rest ↦ elim rest [ inl x ↦ (let h = zero_left a b x in omega (arith, ints)) | inr x ↦ absurd (omega (arith, ints)) ]
-]
-
-weak_negative : (a b : ℤ) → pos 0 <ℤ a → b ≤ℤ pos 0 → (a *ℤ b) ≤ℤ pos 0
-weak_negative a b ha hb = elim (negative_or b) [
-  | inl y ↦ (let h = positive_negative a b ha y in omega (arith, ints))
-  | inr rest ↦ elim rest [ inl y ↦ (let h = zero_right a b y in omega (arith, ints)) | inr y ↦ absurd (omega (arith, ints)) ]
 ]
 
 -- a point left of p to m is left of p to q where m lies in the direction of q
@@ -70,7 +65,7 @@ turns_on p q m x y pq pm same hm off hx hy mx my = elim (negative_or (area p q m
           let first = zero_right (area m x y) (area p q p) (area_first p q) in
           let second = weak_product (area p m y) (area p q x) my hx in
           let third = positive_negative (area p x y) (area p q m) a strict in
-          let fourth = weak_negative (area p m x) (area p q y) mx hy in
+          let fourth = positive_low (area p m x) (area p q y) mx hy in
           omega (arith, ints))
     ]
   ]

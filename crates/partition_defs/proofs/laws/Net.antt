@@ -3,7 +3,8 @@ use Rattle.std.proofs.Common.{◌≡◌, ◌≢◌, ℕ, ℤ, pos, ◌<◌, ◌�
 use Rattle.std.specs.Prelude.{◌<ℤ◌, ◌≤ℤ◌}
 use Rattle.plane_laws.specs.Quads.{AreEnds}
 use Rattle.plane_laws.proofs.Four.{same_or, empty_next, Four, empty_after, clear_after, end_after}
-use Rattle.plane_laws.proofs.Field.{Laws, Over, over_back, over_turned, Inside, apart, weak, no_zero, by_high, not_beyond, rot, rot_back, left_first, left_second, zero_first, zero_second, exit, two_on_side}
+use Rattle.plane_laws.proofs.Field.{Laws, Over, over_back, over_turned, Inside, apart, by_high, not_beyond, rot, rot_back, left_first, left_second, zero_first, zero_second, exit, two_on_side}
+use Rattle.number_laws.proofs.Signs.{weak_of_positive, zero_not_positive}
 
 -- r is the apex of p to q among the segments J
 pub record Apex (n : ℕ) (o : ℕ → ℕ → ℕ → ℤ) (J : ℕ → ℕ → Type 0) (p q r : ℕ) : Type 0 where
@@ -98,13 +99,13 @@ module _ (n : ℕ) (o : ℕ → ℕ → ℕ → ℤ) (B : ℕ → ℕ → ℕ �
     none_enters p q r u A h x y side =
         by_high (o q p u)
         (λ z. N.plane p q u r side (N.back r u h) (record { end = A.left; start = z; first = rot_back o B L r p u x; second = y }))
-        (λ z. A.empty u (N.within u r (N.back r u h)) up (left_second_of y) (left_first_of x) (not_beyond o B L q p u z, weak (o q r u) (rot_back o B L r u q y), weak (o r p u) x))
+        (λ z. A.empty u (N.within u r (N.back r u h)) up (left_second_of y) (left_first_of x) (not_beyond o B L q p u z, weak_of_positive (o q r u) (rot_back o B L r u q y), weak_of_positive (o r p u) x))
       where
         up : u ≢ p
-        up e = no_zero (o r p p) (zero_second o B L r p) (subst (λ z. pos 0 <ℤ o r p z) e x)
+        up e = zero_not_positive (o r p p) (zero_second o B L r p) (subst (λ z. pos 0 <ℤ o r p z) e x)
 
         left_second_of : pos 0 <ℤ o r u q → u ≢ q
-        left_second_of g e = no_zero (o r q q) (zero_second o B L r q) (subst (λ z. pos 0 <ℤ o r z q) e g)
+        left_second_of g e = zero_not_positive (o r q q) (zero_second o B L r q) (subst (λ z. pos 0 <ℤ o r z q) e g)
 
         left_first_of : pos 0 <ℤ o r p u → u ≢ r
         left_first_of g = left_first o B L r p u g
@@ -257,8 +258,8 @@ module _ (n : ℕ) (o : ℕ → ℕ → ℕ → ℤ) (B : ℕ → ℕ → ℕ �
 
       -- a segment doesn't cross itself
       own : (p q u v : ℕ) → AreEnds u v p q → ¬ Over o p q u v
-      own p q u v (inl w) x = no_zero (o u v u) (zero_first o B L u v) (subst (λ y. pos 0 <ℤ o u v y) w.0 x.first)
-      own p q u v (inr w) x = no_zero (o u v v) (zero_second o B L u v) (subst (λ y. pos 0 <ℤ o u v y) w.0 x.first)
+      own p q u v (inl w) x = zero_not_positive (o u v u) (zero_first o B L u v) (subst (λ y. pos 0 <ℤ o u v y) w.0 x.first)
+      own p q u v (inr w) x = zero_not_positive (o u v v) (zero_second o B L u v) (subst (λ y. pos 0 <ℤ o u v y) w.0 x.first)
 
       both : (p q u v : ℕ) → AreEnds c d p q → AreEnds c d u v → AreEnds u v p q
       both p q u v (inl w) (inl z) = inl (w.0 ∙ sym z.0, w.1 ∙ sym z.1)

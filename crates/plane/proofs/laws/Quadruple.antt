@@ -5,8 +5,9 @@ use Rattle.std.proofs.Math.IntN.{*ℤ_comm}
 use Rattle.plane.specs.declared.coordinates.Point.{Point}
 use Rattle.plane.specs.Geometry.{area, AreOpposite, DoCross}
 use Rattle.number_laws.proofs.Products.{sub_mul, mul_sub, mul_differences, mul_add, mul_neg, mul_assoc, mul_left_comm}
-use Rattle.number_laws.proofs.Signs.{negative_or, positive_positive, positive_negative, negative_positive, negative_negative, zero_left}
+use Rattle.number_laws.proofs.Signs.{negative_or, positive_positive, positive_negative}
 use Rattle.plane.proofs.laws.Opposite.{opposite_neg}
+use Rattle.number_laws.proofs.Sums.{low_weak, low_high_weak}
 
 -- twice the area of three points, by products of their coordinates
 area_expanded : (p q r : Point) → area p q r ≡ (q.x *ℤ r.y -ℤ q.y *ℤ r.x) -ℤ (p.x *ℤ r.y -ℤ p.y *ℤ r.x) +ℤ (p.x *ℤ q.y -ℤ p.y *ℤ q.x)
@@ -73,18 +74,6 @@ dependence a b c d =
 flat : (m a b c d : ℤ) → d -ℤ c ≡ a -ℤ b → m *ℤ d -ℤ m *ℤ c ≡ m *ℤ a -ℤ m *ℤ b
 flat m a b c d e = sym (mul_sub m d c) ∙ ap (λ x. m *ℤ x) e ∙ mul_sub m a b
 
-not_below_zero : (a b : ℤ) → a ≤ℤ pos 0 → pos 0 <ℤ b → (a *ℤ b) ≤ℤ pos 0
-not_below_zero a b h k = elim (negative_or a) [
-  | inl n ↦ (let p = negative_positive a b n k in omega (arith, ints))
-  | inr rest ↦ elim rest [ inl z ↦ (let e = zero_left a b z in omega (arith, ints)) | inr g ↦ absurd (omega (arith, ints)) ]
-]
-
-not_above_zero : (a b : ℤ) → a ≤ℤ pos 0 → b <ℤ pos 0 → pos 0 ≤ℤ (a *ℤ b)
-not_above_zero a b h k = elim (negative_or a) [
-  | inl n ↦ (let p = negative_negative a b n k in omega (arith, ints))
-  | inr rest ↦ elim rest [ inl z ↦ (let e = zero_left a b z in omega (arith, ints)) | inr g ↦ absurd (omega (arith, ints)) ]
-]
-
 balance : (pa pb pc pd ma mb mc md ba ab cd dc : ℤ) → md -ℤ mc ≡ ma -ℤ mb → ba -ℤ ab ≡ cd -ℤ dc → pa ≡ ba -ℤ ma → pb ≡ ab -ℤ mb → pc ≡ dc -ℤ mc → pd ≡ cd -ℤ md → pa -ℤ pb ≡ pd -ℤ pc
 balance pa pb pc pd ma mb mc md ba ab cd dc flat even ha hb hc hd = omega (arith, ints)
 
@@ -99,15 +88,15 @@ apart_across : (m ax bx cx dx a b c d : ℤ) → bx *ℤ a -ℤ ax *ℤ b ≡ cx
 apart_across m ax bx cx dx a b c d even sum (inl h) (inl k) la lb lc ld = omega (arith, ints, sum, h.0, h.1, k.0, k.1)
 apart_across m ax bx cx dx a b c d even sum (inr h) (inr k) la lb lc ld = omega (arith, ints, sum, h.0, h.1, k.0, k.1)
 apart_across m ax bx cx dx a b c d even sum (inr h) (inl k) la lb lc ld =
-    let pa = not_below_zero (bx -ℤ m) a (omega (arith, ints)) h.0 in
-    let pb = not_above_zero (ax -ℤ m) b (omega (arith, ints)) h.1 in
+    let pa = low_high_weak (bx -ℤ m) a (omega (arith, ints)) h.0 in
+    let pb = low_weak (ax -ℤ m) b (omega (arith, ints)) h.1 in
     let pc = positive_negative (dx -ℤ m) c (omega (arith, ints)) k.0 in
     let pd = positive_positive (cx -ℤ m) d (omega (arith, ints)) k.1 in
     let e = balance _ _ _ _ (m *ℤ a) (m *ℤ b) (m *ℤ c) (m *ℤ d) (bx *ℤ a) (ax *ℤ b) (cx *ℤ d) (dx *ℤ c) (flat m a b c d sum) even (sub_mul bx m a) (sub_mul ax m b) (sub_mul dx m c) (sub_mul cx m d) in
     four_signs ((bx -ℤ m) *ℤ a) ((ax -ℤ m) *ℤ b) ((dx -ℤ m) *ℤ c) ((cx -ℤ m) *ℤ d) pa pb pc pd e
 apart_across m ax bx cx dx a b c d even sum (inl h) (inr k) la lb lc ld =
-    let pa = not_above_zero (bx -ℤ m) a (omega (arith, ints)) h.0 in
-    let pb = not_below_zero (ax -ℤ m) b (omega (arith, ints)) h.1 in
+    let pa = low_weak (bx -ℤ m) a (omega (arith, ints)) h.0 in
+    let pb = low_high_weak (ax -ℤ m) b (omega (arith, ints)) h.1 in
     let pc = positive_positive (dx -ℤ m) c (omega (arith, ints)) k.0 in
     let pd = positive_negative (cx -ℤ m) d (omega (arith, ints)) k.1 in
     let e = balance _ _ _ _ (m *ℤ a) (m *ℤ b) (m *ℤ c) (m *ℤ d) (bx *ℤ a) (ax *ℤ b) (cx *ℤ d) (dx *ℤ c) (flat m a b c d sum) even (sub_mul bx m a) (sub_mul ax m b) (sub_mul dx m c) (sub_mul cx m d) in

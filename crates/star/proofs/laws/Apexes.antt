@@ -13,7 +13,7 @@ use Rattle.partition_defs.proofs.laws.Has.{contains_of}
 use Rattle.partition_defs.proofs.laws.Joined.{joined}
 use Rattle.star.specs.Stars.{Seen, StandsAt, IsNext, entry, around}
 use Rattle.star.specs.StarOf.{IsStarOf}
-use Rattle.star.proofs.Crossings.{crossing_ends}
+use Rattle.partition_defs.proofs.laws.Crossings.{crossing_ends}
 use Rattle.star.proofs.Cyclic.{IsAmid, next_or_amid, around_inside}
 
 -- no neighbour of p stands between the sides of the triangle of an apex

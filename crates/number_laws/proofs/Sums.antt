@@ -84,3 +84,9 @@ last_low a b c d e f h ha hb hc hd he =
     (λ s. absurd (omega (arith, ints, negative_positive e f he s)))
     (λ s. omega (arith, ints))
     (λ s. omega (arith, ints))
+
+pub positive_low : (a b : ℤ) → pos 0 <ℤ a → b ≤ℤ pos 0 → (a *ℤ b) ≤ℤ pos 0
+positive_low a b ha hb = by_sign b
+    (λ p. absurd (omega (arith, ints)))
+    (λ p. omega (arith, ints, zero_right a b p))
+    (λ p. omega (arith, ints, positive_negative a b ha p))

@@ -1,17 +1,10 @@
--- Crossing doesn't depend on the order of a pair's ends.
+-- The pairs that join the ends of crossing segments cross.
 use Rattle.std.proofs.Common.{ℕ, List, inl, inr, sym, subst}
 use Rattle.plane.specs.declared.coordinates.Point.{Point}
 use Rattle.plane.specs.declared.segment.Pair.{Pair}
-use Rattle.plane.specs.Geometry.{point, area, DoCross, AreCrossing}
-use Rattle.plane.proofs.laws.Area.{area_back}
-use Rattle.plane.proofs.laws.Opposite.{opposite_neg, opposite_swap}
+use Rattle.plane.specs.Geometry.{point, AreCrossing}
+use Rattle.plane.proofs.laws.Crossings.{cross_first, cross_second}
 use Rattle.partition_defs.specs.Partition.{HasEnds}
-
-cross_first : (a b c d : Point) → DoCross a b c d → DoCross b a c d
-cross_first a b c d h = (opposite_neg _ _ _ _ (area_back b a c) (area_back b a d) h.0, opposite_swap (area c d a) (area c d b) h.1)
-
-cross_second : (a b c d : Point) → DoCross a b c d → DoCross a b d c
-cross_second a b c d h = (opposite_swap (area a b c) (area a b d) h.0, opposite_neg _ _ _ _ (area_back d c a) (area_back d c b) h.1)
 
 pub crossing_ends : (S : List Point) (e f : Pair) (a b c d : ℕ) → HasEnds e a b → HasEnds f c d → AreCrossing S a b c d → AreCrossing S e.lo e.hi f.lo f.hi
 crossing_ends S e f a b c d he hf h = second hf (first he h)

@@ -4,11 +4,11 @@ use Rattle.std.proofs.lemmas.Int.{ints}
 use Rattle.plane.proofs.laws.Line.{same_point}
 use Rattle.number_laws.proofs.Products.{neg_mul_neg}
 use Rattle.plane.proofs.laws.Area.{area_back, area_swap}
-use Rattle.plane.proofs.laws.Along.{between_swap, one_between, other_side}
-use Rattle.plane.proofs.laws.Border.{points_differ, not_all_in_line, clear_back}
+use Rattle.plane.proofs.laws.Along.{between_swap}
+use Rattle.plane.proofs.laws.Border.{points_differ}
 use Rattle.plane.specs.declared.coordinates.Point.{Point}
-use Rattle.plane.specs.declared.coordinates.Turn.TheVariants.{Left, Right}
-use Rattle.plane.specs.Geometry.{point, area, orientation, LiesBetween}
+use Rattle.plane.specs.declared.coordinates.Turn.TheVariants.{Left}
+use Rattle.plane.specs.Geometry.{point, area}
 use Rattle.plane.specs.Hull.{IsBorderStep}
 use Rattle.plane.specs.Accepted.{AreAccepted}
 use Rattle.plane_laws.specs.Order.{IsBefore}

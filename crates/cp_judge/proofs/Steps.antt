@@ -10,7 +10,7 @@ use Rattle.plane.specs.First.{ComesBefore}
 use Rattle.plane.specs.Accepted.{AreAccepted}
 use Rattle.plane.specs.Geometry.{IsBetween, IsBorderPair}
 use Rattle.plane.specs.Hull.{IsBorderStep}
-use Rattle.plane.proofs.laws.Border.{reaches, stays, leaves, not_all_in_line, border_of_left, clear_back, border_back}
+use Rattle.plane.proofs.laws.Border.{not_all_in_line, border_of_left, clear_back, border_back}
 use Rattle.partition_defs.specs.Partition.{Joins, HasBorder}
 use Rattle.cp_judge.specs.Violation.{IsMissing, IsMissingBorder, IsMissingStep, IsMissingBelow, IsLesser}
 use Rattle.partition_defs.proofs.laws.Joined.{join_back}

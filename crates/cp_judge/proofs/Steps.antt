@@ -2,15 +2,14 @@
 use Rattle.std.proofs.Common.{refl, ◌≡◌, ◌≢◌, ◌<◌, ◌≤◌, ◌+◌, ◌⊎◌, ⊎_elim, inl, inr, ℕ, List, length, sym, ◌∙◌, subst, ap, arith, Option, Some, None, MatchOption, min, max}
 use Rattle.std.proofs.lemmas.Bool.{cases_order, cases_lt}
 use Rattle.plane.specs.declared.coordinates.Point.{Point}
-use Rattle.plane.specs.declared.coordinates.Turn.{Turn}
-use Rattle.plane.specs.declared.coordinates.Turn.TheVariants.{Left, Straight}
+use Rattle.plane.specs.declared.coordinates.Turn.TheVariants.{Left}
 use Rattle.plane.specs.declared.segment.Pair.{Pair}
 use Rattle.std.proofs.Math.Nat.{eq-or-lt_of_le}
 use Rattle.plane.specs.First.{ComesBefore}
 use Rattle.plane.specs.Accepted.{AreAccepted}
-use Rattle.plane.specs.Geometry.{IsBetween, IsBorderPair}
+use Rattle.plane.specs.Geometry.{IsBorderPair}
 use Rattle.plane.specs.Hull.{IsBorderStep}
-use Rattle.plane.proofs.laws.Border.{not_all_in_line, border_of_left, clear_back, border_back}
+use Rattle.plane.proofs.laws.Border.{border_of_left, clear_back, border_back}
 use Rattle.partition_defs.specs.Partition.{Joins, HasBorder}
 use Rattle.cp_judge.specs.Violation.{IsMissing, IsMissingBorder, IsMissingStep, IsMissingBelow, IsLesser}
 use Rattle.partition_defs.proofs.laws.Joined.{join_back}

@@ -1,5 +1,5 @@
 -- The next kept neighbour in the words of the list that goes round.
-use Rattle.std.proofs.Common.{◌≡◌, ◌≢◌, ℕ, ◌+◌, ◌-◌, ◌<◌, ◌≤◌, Bool, true, false, List, length, ◌⊎◌, inl, inr, arith, ap, sym, subst, refl, ◌∙◌, None}
+use Rattle.std.proofs.Common.{◌≡◌, ◌≢◌, ℕ, ◌+◌, ◌-◌, ◌<◌, ◌≤◌, Bool, false, List, length, ◌⊎◌, inl, inr, arith, ap, sym, subst, ◌∙◌, None}
 use Rattle.std.proofs.lemmas.Bool.{false≢true, cases_lt}
 use Rattle.plane.specs.declared.coordinates.Point.{Point}
 use Rattle.star.specs.Stars.{Seen, entry, around, IsFirstKept, IsFirstKeptOrNone}

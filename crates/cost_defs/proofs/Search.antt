@@ -1,30 +1,15 @@
 -- What the order of pairs says: of a binary search for a pair's cost, and of the test that a list is ascending.
-use Rattle.std.proofs.Common.{◌≡◌, ◌<◌, ◌≤◌, ◌+◌, ℕ, Bool, false, true, List, length, get_or, refl, sym, ◌∙◌, subst, arith, inl, inr, ⊎_elim, Ordering, is_lt, nat_cmp, IsTrue, ◌↔◌, zero, suc}
+use Rattle.std.proofs.Common.{◌≡◌, ◌<◌, ◌≤◌, ◌+◌, ℕ, Bool, false, true, List, length, get_or, refl, sym, ◌∙◌, subst, arith, inl, inr, ⊎_elim, is_lt, IsTrue, ◌↔◌, zero, suc}
 use Rattle.std.specs.List.{AllPairs, AllAdjacentBelow, IsAllAdjacentAnswer}
-use Rattle.std.specs.Ordering.{ordering_then, ordering_index}
-use Rattle.std.specs.Cmp.{IsTotalOrder}
+use Rattle.std.specs.Ordering.{ordering_index}
 use Rattle.std.specs.declared.cmp.Ordering.TheVariants.{Less, Equal, Greater}
 use Rattle.std.specs.List.Sorted.{IsSortedBy, IsNonDecreasingBy, IsPartitionPoint}
 use Rattle.std.proofs.lemmas.Bool.{cases_lt, cases_order, false≢true, true≢false}
 use Rattle.std.proofs.lemmas.Bool.Decides.{nat_tests}
-use Rattle.std.proofs.lemmas.Cmp.{then_total, on_total, nat_cmp_total}
 use Rattle.std.proofs.lemmas.List.Sorted.{searchable_from_sorted}
 use Rattle.plane.specs.declared.segment.Pair.{Pair}
 use Rattle.cost_defs.specs.Costs.{Costed, IsCostedBefore, cost, AreCosts}
-use Rattle.cost_defs.proofs.Laws.{has_ends-other, cost-absent, cost-listed}
-
--- the order of pairs
-abbrev pub pair_cmp : (e f : Pair) → Ordering
-pair_cmp e f = ordering_then (nat_cmp e.lo f.lo) (nat_cmp e.hi f.hi)
-
-pair_total : IsTotalOrder pair_cmp
-pair_total = then_total (on_total (λ (e : Pair). e.lo) nat_cmp_total) (on_total (λ (e : Pair). e.hi) nat_cmp_total)
-
-equal_lo : (e f : Pair) → pair_cmp e f ≡ Equal → e.lo ≡ f.lo
-equal_lo e f h = grind (arith, nat_tests)
-
-equal_hi : (e f : Pair) → pair_cmp e f ≡ Equal → e.hi ≡ f.hi
-equal_hi e f h = grind (arith, nat_tests)
+use Rattle.cost_defs.proofs.Laws.{IsCostedBefore-trans, pair_cmp, pair_total, pair_cmp-equal_lo, pair_cmp-equal_hi, has_ends-other, cost-absent, cost-listed}
 
 less_apart : (e f : Pair) → pair_cmp e f ≡ Less → e.lo ≡ f.lo → e.hi ≡ f.hi → ⊥
 less_apart e f h lo hi = grind (arith, nat_tests)
@@ -45,7 +30,7 @@ searchable D e up =
 -- the item that was found gives the cost
 pub cost-found : (D : List Costed) (e : Pair) (k : ℕ) (d : Costed) → AreCosts D → k < length D → pair_cmp (get_or D k d).0 e ≡ Equal → (get_or D k d).1 ≡ cost D e.lo e.hi
 cost-found D e k d costs l h =
-    sym (cost-listed D e k d costs l (equal_lo (get_or D k d).0 e h) (equal_hi (get_or D k d).0 e h))
+    sym (cost-listed D e k d costs l (pair_cmp-equal_lo (get_or D k d).0 e h) (pair_cmp-equal_hi (get_or D k d).0 e h))
 
 -- a pair that isn't found costs 1
 pub cost-missed : (D : List Costed) (e : Pair) (i : ℕ) → AreCosts D → (IsNonDecreasingBy (λ x. ordering_index (pair_cmp x.0 e)) D → IsPartitionPoint (λ x. pair_cmp x.0 e ≡ Less) (λ x. pair_cmp x.0 e ≡ Greater) D i) → 1 ≡ cost D e.lo e.hi
@@ -67,19 +52,13 @@ tested_before : (x y : Costed) → IsCostedBefore x y → is_lt (pair_cmp x.0 y.
 tested_before x y (inl h) = grind (arith, nat_tests)
 tested_before x y (inr h) = grind (arith, nat_tests)
 
-before-trans : (x y z : Costed) → IsCostedBefore x y → IsCostedBefore y z → IsCostedBefore x z
-before-trans x y z (inl h) (inl k) = inl (omega arith)
-before-trans x y z (inl h) (inr k) = inl (omega (arith, h, k.0))
-before-trans x y z (inr h) (inl k) = inl (omega (arith, h.0, k))
-before-trans x y z (inr h) (inr k) = inr (h.0 ∙ k.0, omega (arith, h.1, k.1))
-
 -- where each item comes before the next, each comes before all later ones
 all_before : (D : List Costed) → AllAdjacentBelow IsCostedBefore D (length D) → AllPairs IsCostedBefore D
 all_before D up i zero d l m = absurd (omega (arith, l))
 all_before D up i (suc j) d l m =
     let next : IsCostedBefore (get_or D j d) (get_or D (suc j) d) = subst (λ n. IsCostedBefore (get_or D j d) (get_or D n d)) (omega arith) (up j d (omega arith)) in
     elim (cases_lt i j) [
-      | inl h ↦ before-trans (get_or D i d) (get_or D j d) (get_or D (suc j) d) (all_before D up i j d h (omega arith)) next
+      | inl h ↦ IsCostedBefore-trans (get_or D i d) (get_or D j d) (get_or D (suc j) d) (all_before D up i j d h (omega arith)) next
       | inr h ↦ subst (λ n. IsCostedBefore (get_or D n d) (get_or D (suc j) d)) (omega arith) next
     ]
 

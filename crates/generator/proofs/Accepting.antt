@@ -7,7 +7,7 @@ use Rattle.plane.specs.declared.coordinates.Point.{Point}
 use Rattle.plane.specs.Geometry.{point, area}
 use Rattle.plane.specs.Accepted.{IsNear, AreAccepted}
 use Rattle.generator.specs.Words.{word}
-use Rattle.generator.specs.Kinds.{place, width, scatter_point, grid_point, ring_point, IsSide}
+use Rattle.generator.specs.Kinds.{place, width, scatter_point, grid_point, ring_point, wide_point, IsSide}
 
 across : (x y x' y' : ℕ) → place x y ≡ place x' y' → x ≡ x'
 across x y x' y' e = let f : pos x ≡ pos x' = ap (λ (p : Point). p.x) e in cc
@@ -94,6 +94,20 @@ ring_sound n low high = record {
   where
     square_small : (k : ℕ) → k < 5000 → k * k < 100000000
     square_small k h = grind arith
+
+wide_near : (k : ℕ) → k < 5000 → IsNear (wide_point k)
+wide_near k h = let s : k * k < 25000000 = grind arith in (omega arith, omega (arith, s))
+
+wide_area : area (place 0 0) (place 1099511627776 68719476736) (place 2199023255552 274877906944) ≡ pos 151115727451828646838272
+unfolding area
+wide_area = refl
+
+pub wide_sound : (n : ℕ) → 3 ≤ n → n ≤ 5000 → IsSound n wide_point
+wide_sound n low high = record {
+  near = λ k h. wide_near k (omega arith);
+  apart = λ i j h k e. omega (arith, across (1099511627776 * i) (68719476736 * i * i) (1099511627776 * j) (68719476736 * j * j) e);
+  bent = (0, 1, 2, omega arith, omega arith, omega arith, λ e. not_zero 151115727451828646838272 (omega arith) (sym wide_area ∙ e));
+}
 
 -- ---- the grid
 

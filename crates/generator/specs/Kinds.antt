@@ -4,7 +4,7 @@ use Rattle.plane.specs.declared.coordinates.Point.{Point}
 use Rattle.plane.specs.First.{IsLeast}
 use Rattle.plane.specs.Geometry.{point}
 use Rattle.generator.specs.declared.kinds.Kind.{Kind}
-use Rattle.generator.specs.declared.kinds.Kind.TheVariants.{Scatter, Grid, Ring}
+use Rattle.generator.specs.declared.kinds.Kind.TheVariants.{Scatter, Grid, Ring, Wide}
 use Rattle.generator.specs.Words.{word}
 
 abbrev pub place : (x y : ℕ) → Point
@@ -33,11 +33,16 @@ grid_point m k = place (10 * (k % m)) (10 * (k / m))
 abbrev pub ring_point : (k : ℕ) → Point
 ring_point k = place k (k * k)
 
+-- A wide instance lies on a parabola too, with coordinates far apart.
+abbrev pub wide_point : (k : ℕ) → Point
+wide_point k = place (1099511627776 * k) (68719476736 * k * k)
+
 -- the point with this index
 abbrev pub made_point : Kind → (n m seed k : ℕ) → Point
 made_point Scatter n m seed k = scatter_point n seed k
 made_point Grid n m seed k = grid_point m k
 made_point Ring n m seed k = ring_point k
+made_point Wide n m seed k = wide_point k
 
 -- the points of a kind: as many as asked for, each as said
 pub record AreMade (kind : Kind) (n seed : ℕ) (S : List Point) : Type 0 where

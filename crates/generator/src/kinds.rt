@@ -9,4 +9,6 @@ pub enum Kind {
     Grid,
     /// Points on a parabola, all of them on the hull's border.
     Ring,
+    /// Points on a parabola, all of them on the hull's border, whose coordinates go far beyond 32 bits.
+    Wide,
 }

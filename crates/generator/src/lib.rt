@@ -1,4 +1,5 @@
-//! Instances that anyone can make again from a number: points in strips at random, in a grid, or on a parabola.
+//! Instances that anyone can make again from a number: points in strips at random, in a grid, or on
+//! a parabola, near or far apart.
 #![tactic(auto)]
 
 mod kinds;

@@ -2,7 +2,7 @@
 ghost use Rattle.std.specs.Prelude.{◌≡◌, ◌+◌, ◌*◌, ◌%◌, ◌<◌, ◌≤◌, [], ◌∷◌, ℕ, vec_len, IfOk};
 ghost use Rattle.plane.specs.Geometry.{point};
 ghost use Rattle.plane.specs.Accepted.{AreAccepted};
-ghost use Rattle.generator.specs.Kinds.{scatter_point, grid_point, ring_point, IsSide, place, width};
+ghost use Rattle.generator.specs.Kinds.{scatter_point, grid_point, ring_point, wide_point, IsSide, place, width};
 
 use plane::Point;
 use rand_core::utils::NextWord;
@@ -17,6 +17,10 @@ fn at(x: u32, y: u32) -> Point
         y: i64::from(y),
     }
 }
+
+const ACROSS: i64 = 1_099_511_627_776;
+
+const UPWARD: i64 = 68_719_476_736;
 
 // Three corners, and then a point in each strip.
 pub fn scatter(alloc: Global, n: u32, seed: u64) -> Result<Vec<Point>, AllocError>
@@ -110,4 +114,30 @@ fn square(k: u32) -> u32
     ensures { result ≡ k * k }
 {
     k * k
+}
+
+// Points on a parabola, far apart.
+pub fn wide(alloc: Global, n: u32) -> Result<Vec<Point>, AllocError>
+    requires least { 3 ≤ n }
+    requires most { n ≤ 5000 }
+    ensures count { IfOk result (λ v. vec_len v ≡ n) }
+    ensures each { IfOk result (λ v. (k : ℕ) → k < n → point v.items k ≡ wide_point k) }
+    ensures accepted { IfOk result (λ v. AreAccepted v.items) }
+{
+    let mut list = Vec::with_capacity(alloc, n as usize)?;
+    for k in 0..n {
+        list.push(far_point(k))?;
+    }
+    Ok(list)
+}
+
+fn far_point(k: u32) -> Point
+    requires { k < 5000 }
+    ensures { result ≡ wide_point k }
+{
+    let k = i64::from(k);
+    Point {
+        x: ACROSS * k,
+        y: UPWARD * (k * k),
+    }
 }

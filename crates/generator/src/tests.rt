@@ -6,7 +6,7 @@ use std::test::Fail;
 // generator's published reference.
 #[test]
 fn points_by_kind_and_index(rt: HostRuntime) -> Result<(), Fail> {
-    let cases: [(Kind, u32, u64, u32, i64, i64); 14] = [
+    let cases: [(Kind, u32, u64, u32, i64, i64); 16] = [
         (Kind::Scatter, 100, 7, 0, 0, 0),
         (Kind::Scatter, 100, 7, 1, 100_000, 0),
         (Kind::Scatter, 100, 7, 2, 0, 100_000),
@@ -21,11 +21,21 @@ fn points_by_kind_and_index(rt: HostRuntime) -> Result<(), Fail> {
         (Kind::Grid, 3, 0, 2, 0, 10),
         (Kind::Ring, 5, 3, 2, 2, 4),
         (Kind::Ring, 5000, 0, 4999, 4999, 24_990_001),
+        (Kind::Wide, 3, 1, 2, 2_199_023_255_552, 274_877_906_944),
+        (
+            Kind::Wide,
+            5000,
+            1,
+            4999,
+            5_496_458_627_252_224,
+            1_717_299_792_352_116_736,
+        ),
     ];
     for (kind, n, seed, k, x, y) in cases {
         assert!(rt; 3 <= n && n <= 5000);
         let instance = generate(rt.alloc(), kind, n, seed)?;
         assert_eq!(rt; instance.points.len(), n);
+        assert_eq!(rt; instance.costs.list().len(), 0);
         assert!(rt; k < instance.points.len());
         assert_eq!(rt;
             instance.points.at(k),
@@ -39,6 +49,7 @@ fn points_by_kind_and_index(rt: HostRuntime) -> Result<(), Fail> {
 #[test]
 fn names_by_kind_count_and_seed(rt: HostRuntime) -> Result<(), Fail> {
     let cases = [
+        (Kind::Wide, 3, 1, "wide-3-1"),
         (Kind::Scatter, 100, 7, "scatter-100-7"),
         (Kind::Grid, 6, 0, "grid-6-0"),
         (Kind::Ring, 3, u64::MAX, "ring-3-18446744073709551615"),

@@ -5,7 +5,7 @@ use Rattle.text_defs.specs.Reading.{json_reading}
 use Rattle.text_defs.specs.Instances.{instance_in, instance_from, not_json}
 use Rattle.instance_io.specs.declared.instances.Instance.{Instance}
 use Rattle.instance_io.specs.declared.instances.InstanceFault.{InstanceFault}
-use Rattle.instance_io.specs.declared.instances.InstanceFault.TheVariants.{NotJson, NoName, LongName, NoPoints, BadPoint, NotWhole, MixedIndex, BadIndex, Bad, NoMemory}
+use Rattle.instance_io.specs.declared.instances.InstanceFault.TheVariants.{NotJson, NoName, LongName, NoPoints, BadPoint, NotWhole, MixedIndex, BadIndex, Bad, BadCosts, TooManyCosts, BadCost, NoMemory}
 use Rattle.instance_io.specs.Told.{Tells, error}
 use Rattle.instance_io.specs.Refusal.{RefusesText, HasFault, IsRead, IsExact}
 use Rattle.instance_io.proofs.Exact.{exact_text}
@@ -31,6 +31,9 @@ refused_answer bytes (NotWhole k) h = absurd h
 refused_answer bytes (MixedIndex k) h = absurd h
 refused_answer bytes (BadIndex k) h = absurd h
 refused_answer bytes (Bad b) h = absurd h
+refused_answer bytes BadCosts h = absurd h
+refused_answer bytes (TooManyCosts k) h = absurd h
+refused_answer bytes (BadCost k) h = absurd h
 refused_answer bytes NoMemory h = tt
 
 pub read_exact : (bytes : List ℕ) (d : Data) (result : Result Instance InstanceFault) → json_reading bytes ≡ Some d → IsExact (instance_in d) result → IsExact (instance_from bytes) result
@@ -46,6 +49,9 @@ refused_tells bytes (NotWhole k) h = absurd h
 refused_tells bytes (MixedIndex k) h = absurd h
 refused_tells bytes (BadIndex k) h = absurd h
 refused_tells bytes (Bad b) h = absurd h
+refused_tells bytes BadCosts h = absurd h
+refused_tells bytes (TooManyCosts k) h = absurd h
+refused_tells bytes (BadCost k) h = absurd h
 refused_tells bytes NoMemory h = tt
 
 pub refused_exact : (bytes : List ℕ) (fault : InstanceFault) → RefusesText fault (json_reading bytes) → IsExact (instance_from bytes) (Err fault)

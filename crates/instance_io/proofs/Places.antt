@@ -1,59 +1,24 @@
--- The first place with a property, and the places taken by indices.
-use Rattle.std.proofs.Common.{◌≡◌, ◌≢◌, ◌⊎◌, ℕ, zero, suc, ◌+◌, ◌<◌, ◌≤◌, List, [], ◌∷◌, ◌++◌, length, map, take, set, get_or, nat_lt, eqb, Option, Some, None, cond, Bool, true, false, not, ◌||◌, refl, sym, ap, ◌∙◌, inl, inr, arith, unwrap_or, option_map, option_and_then, ℤ, pos, negsuc}
-use Rattle.std.specs.List.{position, position_or_len, list_any, range_with_len}
-use Rattle.std.proofs.lemmas.Bool.{cases_eq, cases_lt}
-use Rattle.std.proofs.lemmas.List.{take_more, take_all, map-append, get_or-map, length-map, get_or-set_same, get_or-set_other}
-use Rattle.std.proofs.lemmas.List.Sums.{position_or_len_is}
+-- The items of points that are read, and the places taken by indices.
+use Rattle.std.proofs.Common.{◌≡◌, ◌≢◌, ◌⊎◌, ℕ, ◌+◌, ◌<◌, ◌≤◌, List, [], ◌∷◌, ◌++◌, length, map, take, set, get_or, eqb, Option, Some, None, cond, Bool, true, false, not, ◌||◌, refl, sym, ap, ◌∙◌, inl, inr, arith, unwrap_or, option_map, option_and_then, ℤ, pos, negsuc}
+use Rattle.std.specs.List.{list_any, range_with_len}
+use Rattle.std.proofs.lemmas.Bool.{cases_eq}
+use Rattle.std.proofs.lemmas.List.{take_more, take_all, map-append, length-map, get_or-set_same, get_or-set_other}
 use Rattle.std.proofs.lemmas.List.Folds.{list_any-append}
 use Rattle.std.proofs.lemmas.List.FromFn.{length-range_with_len, get_or-range_with_len}
 use Rattle.serde_json.specs.Data.{Data, null}
 use Rattle.serde_json.specs.View.{view}
 use Rattle.serde_json.specs.declared.value.Value.{Value}
-use Rattle.text_defs.specs.Instances.{below, index_in, item_at, has_this_index, has_bad_index, bad_index, index_fault, not_whole, bad_point, point_fault, is_point, has_both, point_of}
+use Rattle.text_defs.specs.Fields.{below, item_at}
+use Rattle.text_defs.proofs.laws.Lists.{item_at-get_or}
+use Rattle.json_text.proofs.Laws.{position-found, position-none, below_next, view-at, NoneBefore, position-item, position-no_item}
+use Rattle.text_defs.specs.Instances.{index_in, has_this_index, has_bad_index, bad_index, index_fault, not_whole, bad_point, point_fault, is_point, has_both, point_of}
 use Rattle.instance_io.specs.Told.{is_seen, Tells, lack_of}
 use Rattle.instance_io.specs.Refusal.{coordinates}
 use Rattle.plane.specs.declared.coordinates.Point.{Point}
 use Rattle.instance_io.specs.declared.instances.InstanceFault.{InstanceFault}
 use Rattle.instance_io.specs.declared.instances.InstanceFault.TheVariants.{NotWhole, BadPoint}
 
-place_found : {X : Type 0} (p : X → Bool) (xs : List X) (k : ℕ) (d : X) → k < length xs → ((j : ℕ) → j < k → p (get_or xs j d) ≡ false) → p (get_or xs k d) ≡ true → position p xs ≡ Some k
-place_found p xs k d h b t =
-    let e : position_or_len p xs ≡ k = position_or_len_is p xs k d (omega arith) b (λ _. t) in
-    let l : nat_lt k (length xs) ≡ true = grind arith in
-    rw (e, l) refl
-
-no_place : {X : Type 0} (p : X → Bool) (xs : List X) (d : X) → ((j : ℕ) → j < length xs → p (get_or xs j d) ≡ false) → position p xs ≡ None
-no_place p xs d b =
-    let e : position_or_len p xs ≡ length xs = position_or_len_is p xs (length xs) d (omega arith) b (λ h. absurd (omega arith)) in
-    let l : nat_lt (length xs) (length xs) ≡ false = grind arith in
-    rw (e, l) refl
-
-pub at_place : (vs : List Value) (k : ℕ) (v : Value) → k < length vs → v ≡ get_or vs k v → get_or (map view vs) k null ≡ view v
-at_place vs k v h e = get_or-map view vs k v null h ∙ ap view (sym e)
-
--- no place before k has the property
-abbrev pub NoneBefore : (Data → Bool) → List Data → ℕ → Type 0
-NoneBefore p ds k = (j : ℕ) → j < k → p (get_or ds j null) ≡ false
-
-pub found_in : (p : Data → Bool) (vs : List Value) (k : ℕ) (v : Value) → k < length vs → v ≡ get_or vs k v → NoneBefore p (map view vs) k → p (view v) ≡ true → position p (map view vs) ≡ Some k
-found_in p vs k v h e b t = place_found p (map view vs) k null (rw (length-map vs view) h) b (ap p (at_place vs k v h e) ∙ t)
-
-pub none_in : (p : Data → Bool) (vs : List Value) (k : ℕ) → length vs ≤ k → NoneBefore p (map view vs) k → position p (map view vs) ≡ None
-none_in p vs k h b = no_place p (map view vs) null (λ j l. b j (let e = length-map vs view in omega (arith, e)))
-
-none_more_cases : (p : Data → Bool) (ds : List Data) (k : ℕ) → NoneBefore p ds k → p (get_or ds k null) ≡ false → (j : ℕ) → j < k + 1 → (j < k) ⊎ (k ≤ j) → p (get_or ds j null) ≡ false
-none_more_cases p ds k b t j h (inl l) = b j l
-none_more_cases p ds k b t j h (inr l) = let e : j ≡ k = omega arith in rw e t
-
-pub none_more : (p : Data → Bool) (vs : List Value) (k : ℕ) (v : Value) → k < length vs → v ≡ get_or vs k v → NoneBefore p (map view vs) k → p (view v) ≡ false → NoneBefore p (map view vs) (k + 1)
-none_more p vs k v h e b t j l = none_more_cases p (map view vs) k b (ap p (at_place vs k v h e) ∙ t) j l (cases_lt j k)
-
 -- ---- items by their indices
-
-pub item_at_get : (ds : List Data) (k : ℕ) → item_at ds k ≡ get_or ds k null
-item_at_get [] k = refl
-item_at_get (d ∷ ds) zero = refl
-item_at_get (d ∷ ds) (suc k) = item_at_get ds k
 
 below_bound : (n i : ℕ) (z : ℤ) → below n z ≡ Some i → i < n
 below_bound n i (pos k) h = grind arith
@@ -76,7 +41,7 @@ index_bound n i (Some z) h = below_bound n i z h
 pub bad_if_seen : (seen : List Bool) (ds : List Data) (n k : ℕ) (d : Data) (b : Bool) → n ≡ length ds → get_or ds k null ≡ d → AreSeen seen ds k
     → is_seen seen n d ≡ b → has_bad_index ds k ≡ b
 bad_if_seen seen ds n k d b e g s h =
-    let at : item_at ds k ≡ d = item_at_get ds k ∙ g in
+    let at : item_at ds k ≡ d = item_at-get_or ds k ∙ g in
     rw at (bad_by_index seen ds k b (index_in (length ds) d) (λ i q. index_bound (length ds) i _ q) s (rw (← e) h))
 
 or_true : (b : Bool) → (b || true) ≡ true
@@ -110,12 +75,8 @@ seen_more seen ds k i l h b s j q =
     seen_cases seen (take k ds) (length ds) i j (get_or ds k null) h b (cases_eq j i) (s j q)
     ∙ ap (list_any (has_this_index (length ds) j)) (sym (take_more ds k null l))
 
-good_cases : (ds : List Data) (k : ℕ) → ((j : ℕ) → j < k → has_bad_index ds j ≡ false) → has_bad_index ds k ≡ false → (j : ℕ) → j < k + 1 → (j < k) ⊎ (k ≤ j) → has_bad_index ds j ≡ false
-good_cases ds k b t j h (inl l) = b j l
-good_cases ds k b t j h (inr l) = let e : j ≡ k = omega arith in rw e t
-
 pub good_more : (ds : List Data) (k : ℕ) → ((j : ℕ) → j < k → has_bad_index ds j ≡ false) → has_bad_index ds k ≡ false → (j : ℕ) → j < k + 1 → has_bad_index ds j ≡ false
-good_more ds k b t j h = good_cases ds k b t j h (cases_lt j k)
+good_more ds k b t = below_next (has_bad_index ds) k b t
 
 range_at : (ds : List Data) (j : ℕ) → j < length ds → get_or (range_with_len 0 (length ds)) j 0 ≡ j
 range_at ds j h = let z : 0 + j ≡ j = omega arith in get_or-range_with_len 0 (length ds) j 0 h ∙ z
@@ -123,12 +84,12 @@ range_at ds j h = let z : 0 + j ≡ j = omega arith in get_or-range_with_len 0 (
 pub bad_index_found : (ds : List Data) (k : ℕ) → k < length ds → ((j : ℕ) → j < k → has_bad_index ds j ≡ false) → has_bad_index ds k ≡ true → index_fault ds ≡ Some (bad_index k)
 bad_index_found ds k h b t =
     let len = length-range_with_len 0 (length ds) in
-    ap (option_map bad_index) (place_found (has_bad_index ds) (range_with_len 0 (length ds)) k 0 (rw len h) (λ j l. ap (has_bad_index ds) (range_at ds j (omega arith)) ∙ b j l) (ap (has_bad_index ds) (range_at ds k h) ∙ t))
+    ap (option_map bad_index) (position-found (has_bad_index ds) (range_with_len 0 (length ds)) k 0 (rw len h) (λ j l. ap (has_bad_index ds) (range_at ds j (omega arith)) ∙ b j l) (ap (has_bad_index ds) (range_at ds k h) ∙ t))
 
 pub no_bad_index : (ds : List Data) (k : ℕ) → length ds ≤ k → ((j : ℕ) → j < k → has_bad_index ds j ≡ false) → index_fault ds ≡ None
 no_bad_index ds k h b =
     let len = length-range_with_len 0 (length ds) in
-    ap (option_map bad_index) (no_place (has_bad_index ds) (range_with_len 0 (length ds)) 0 (λ j l. let m : j < length ds = omega (arith, len, l) in ap (has_bad_index ds) (range_at ds j m) ∙ b j (omega arith)))
+    ap (option_map bad_index) (position-none (has_bad_index ds) (range_with_len 0 (length ds)) 0 (λ j l. let m : j < length ds = omega (arith, len, l) in ap (has_bad_index ds) (range_at ds j m) ∙ b j (omega arith)))
 
 -- ---- items that are no points
 
@@ -142,21 +103,21 @@ not_true b h = rw h refl
 pub lack_told : (vs : List Value) (k : ℕ) (v : Value) (f : InstanceFault) → k < length vs → v ≡ get_or vs k v → NoneBefore (λ d. not (is_point d)) (map view vs) k
     → is_point (view v) ≡ false → f ≡ lack_of (view v) k → Tells f (point_fault (map view vs))
 lack_told vs k v f h e b t q =
-    let place = found_in (λ d. not (is_point d)) vs k v h e b (not_true (is_point (view v)) t) in
-    let item : item_at (map view vs) k ≡ view v = item_at_get (map view vs) k ∙ at_place vs k v h e in
+    let place = position-item (λ d. not (is_point d)) vs k v h e b (not_true (is_point (view v)) t) in
+    let item : item_at (map view vs) k ≡ view v = item_at-get_or (map view vs) k ∙ view-at vs k v h e in
     let fault : point_fault (map view vs) ≡ Some (cond (has_both (view v)) (not_whole k) (bad_point k)) =
     ap (option_map (λ j. cond (has_both (item_at (map view vs) j)) (not_whole j) (bad_point j))) place ∙ ap (λ d. Some (cond (has_both d) (not_whole k) (bad_point k))) item in
     rw (q, fault) (tells_lack (has_both (view v)) k)
 
 pub all_points : (vs : List Value) (k : ℕ) → length vs ≤ k → NoneBefore (λ d. not (is_point d)) (map view vs) k → point_fault (map view vs) ≡ None
-all_points vs k h b = ap (option_map (λ j. cond (has_both (item_at (map view vs) j)) (not_whole j) (bad_point j))) (none_in (λ d. not (is_point d)) vs k h b)
+all_points vs k h b = ap (option_map (λ j. cond (has_both (item_at (map view vs) j)) (not_whole j) (bad_point j))) (position-no_item (λ d. not (is_point d)) vs k h b)
 
 pub points_more : (points : List Point) (p : Point) (vs : List Value) (k : ℕ) (v : Value) → k < length vs → v ≡ get_or vs k v
     → map coordinates points ≡ map point_of (take k (map view vs)) → coordinates p ≡ point_of (view v)
     → map coordinates (points ++ p ∷ []) ≡ map point_of (take (k + 1) (map view vs))
 points_more points p vs k v h e s q =
     let more : take (k + 1) (map view vs) ≡ take k (map view vs) ++ view v ∷ [] =
-    take_more (map view vs) k null (rw (length-map vs view) h) ∙ ap (λ d. take k (map view vs) ++ d ∷ []) (at_place vs k v h e) in
+    take_more (map view vs) k null (rw (length-map vs view) h) ∙ ap (λ d. take k (map view vs) ++ d ∷ []) (view-at vs k v h e) in
     map-append coordinates points (p ∷ []) ∙ (ap (λ xs. xs ++ coordinates p ∷ []) s ∙ (ap (λ y. map point_of (take k (map view vs)) ++ y ∷ []) q
     ∙ (sym (map-append point_of (take k (map view vs)) (view v ∷ [])) ∙ ap (map point_of) (sym more))))
 

@@ -1,3 +1,4 @@
-pub mod Passes
 pub mod Refusal
 pub mod Told
+pub mod Reading
+pub mod Writing

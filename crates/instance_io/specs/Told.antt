@@ -1,12 +1,14 @@
--- For private clauses: the faults of the parts of a value.
+-- For private clauses.
+-- The faults of the parts of a value.
 use Rattle.std.specs.Prelude.{◌≡◌, Bool, true, ℕ, List, option_map, unwrap_or, if◌then◌else◌, Option, Some, None, Result, Ok, Err, slice_index_or, false}
 use Rattle.serde_json.specs.Data.{Data}
 use Rattle.text_defs.specs.Instances.{Fault, not_json, no_name, long_name, no_points, bad_point, not_whole, mixed_index, bad_index, index_in, has_both}
+use Rattle.text_defs.specs.Costs.{CostFault, bad_costs, too_many_costs, bad_cost}
 use Rattle.instance_io.specs.declared.instances.InstanceFault.{InstanceFault}
-use Rattle.instance_io.specs.declared.instances.InstanceFault.TheVariants.{NotJson, NoName, LongName, NoPoints, BadPoint, NotWhole, MixedIndex, BadIndex, Bad, NoMemory}
+use Rattle.instance_io.specs.declared.instances.InstanceFault.TheVariants.{NotJson, NoName, LongName, NoPoints, BadPoint, NotWhole, MixedIndex, BadIndex, Bad, BadCosts, TooManyCosts, BadCost, NoMemory}
 
 -- the fault of a step of a reading, where it has one
-abbrev pub error : {A : Type 0} → Result A Fault → Option Fault
+abbrev pub error : {A F : Type 0} → Result A F → Option F
 error (Ok x) = None
 error (Err fault) = Some fault
 
@@ -21,7 +23,30 @@ Tells (NotWhole k) found = found ≡ Some (not_whole k)
 Tells (MixedIndex k) found = found ≡ Some (mixed_index k)
 Tells (BadIndex k) found = found ≡ Some (bad_index k)
 Tells (Bad b) found = ⊥
+Tells BadCosts found = ⊥
+Tells (TooManyCosts k) found = ⊥
+Tells (BadCost k) found = ⊥
 Tells NoMemory found = Unit {0}
+
+-- the same, of the faults of costs
+abbrev pub TellsCosts : InstanceFault → Option CostFault → Type 0
+TellsCosts NotJson found = ⊥
+TellsCosts NoName found = ⊥
+TellsCosts (LongName l) found = ⊥
+TellsCosts NoPoints found = ⊥
+TellsCosts (BadPoint k) found = ⊥
+TellsCosts (NotWhole k) found = ⊥
+TellsCosts (MixedIndex k) found = ⊥
+TellsCosts (BadIndex k) found = ⊥
+TellsCosts (Bad b) found = ⊥
+TellsCosts BadCosts found = found ≡ Some bad_costs
+TellsCosts (TooManyCosts k) found = found ≡ Some (too_many_costs k)
+TellsCosts (BadCost k) found = found ≡ Some (bad_cost k)
+TellsCosts NoMemory found = Unit {0}
+
+-- the fault of so many items of costs; want of memory says nothing
+abbrev pub AreTooManyCosts : ℕ → InstanceFault → Type 0
+AreTooManyCosts count fault = TellsCosts fault (Some (too_many_costs count))
 
 -- whether an item has no index among n, or one that was seen
 abbrev pub is_seen : List Bool → ℕ → Data → Bool

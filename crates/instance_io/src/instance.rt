@@ -1,16 +1,16 @@
 // The instance of a value and of a text.
-ghost use Rattle.std.specs.Prelude.{◌≡◌, ◌<◌, ◌^◌, map, vec_len, option_map, option_and_then, Ok, IfOk, MatchResult};
-ghost use Rattle.serde_json.specs.View.{view, items_view};
-ghost use Rattle.serde_json.specs.Find.{get, as_str};
-ghost use Rattle.text_defs.specs.Steps.{array_at};
+ghost use Rattle.std.specs.Prelude.{◌≡◌, ◌<◌, ◌^◌, map, vec_len, Ok, IfOk, MatchResult};
+ghost use Rattle.serde_json.specs.View.{view};
 ghost use Rattle.text_defs.specs.Instances.{name_in, points_in, instance_in, instance_from};
 ghost use Rattle.instance_io.specs.Refusal.{IsRead, IsExact, coordinates};
 ghost use Rattle.instance_io.specs.Told.{Tells, IsLongName, error};
 
+use crate::costs::costs_in;
 use crate::instances::{Instance, InstanceFault};
 use crate::names::Name;
 use crate::points::points_of;
 use crate::reading::read_value;
+use json_text::{array_at, text_at};
 use plane::{Point, Points};
 use serde_json::Value;
 use std::alloc::Global;
@@ -29,9 +29,17 @@ pub fn instance_of(alloc: Global, value: &Value) -> Result<Instance, InstanceFau
         Ok(list) => list,
         Err(fault) => return Err(fault),
     };
-    match Points::make(list) {
-        Ok(points) => Ok(Instance { name, points }),
-        Err(bad) => Err(InstanceFault::Bad(bad)),
+    let points = match Points::make(list) {
+        Ok(points) => points,
+        Err(bad) => return Err(InstanceFault::Bad(bad)),
+    };
+    match costs_in(alloc, value, points.len()) {
+        Ok(costs) => Ok(Instance {
+            name,
+            points,
+            costs,
+        }),
+        Err(fault) => Err(fault),
     }
 }
 
@@ -51,16 +59,6 @@ fn name_of(alloc: Global, value: &Value) -> Result<Name, InstanceFault>
     match String::from_str(alloc, text) {
         Ok(text) => Ok(Name::make(text)),
         Err(_) => Err(InstanceFault::NoMemory),
-    }
-}
-
-// The text under a key.
-fn text_at<'v>(value: &'v Value, key: &str) -> Option<&'v str>
-    ensures { option_map (λ s. s.now) result ≡ option_and_then as_str (get key.now (view value.now)) }
-{
-    match value.get(key) {
-        Some(found) => found.as_str(),
-        None => None,
     }
 }
 
@@ -87,19 +85,6 @@ fn points_in(alloc: Global, value: &Value) -> Result<Vec<Point>, InstanceFault>
         return Err(InstanceFault::NoMemory);
     }
     points_of(alloc, items)
-}
-
-/// The array under a key.
-pub fn array_at<'v>(value: &'v Value, key: &str) -> Option<&'v [Value]>
-    ensures { option_map (λ items. items_view items.now) result ≡ array_at key.now (view value.now) }
-{
-    match value.get(key) {
-        Some(found) => match found.as_array() {
-            Some(items) => Some(items.as_slice()),
-            None => None,
-        },
-        None => None,
-    }
 }
 
 /// The instance that a text is, or its first fault, in the order in which the faults stand in `InstanceFault`.

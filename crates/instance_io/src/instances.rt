@@ -1,12 +1,14 @@
 // What an instance is, and why a text is none.
 use crate::names::Name;
+use cost_defs::Costs;
 use plane::{BadPoints, Points};
 
-/// An instance: its name and its accepted points, by index.
+/// An instance: its name, its accepted points, by index, and the costs of their pairs.
 #[derive(Drop)]
 pub struct Instance {
     pub name: Name,
     pub points: Points,
+    pub costs: Costs,
 }
 
 /// Why a text isn't read as an instance, in the order in which the faults are looked for (this project's own).
@@ -30,6 +32,13 @@ pub enum InstanceFault {
     BadIndex(u32),
     /// The fault of the points, by index.
     Bad(BadPoints),
+    /// The `costs` are there and no array.
+    BadCosts,
+    /// There are more than 300,000 items of `costs`; it shows how many.
+    TooManyCosts(u32),
+    /// The least place of an item of `costs` that isn't three whole numbers, the first two different indices of points
+    /// and the last from 0 to 1,000, or whose pair stood before, either way round.
+    BadCost(u32),
     /// Memory was not found.
     NoMemory,
 }

@@ -1,28 +1,12 @@
 // One item of the points.
 ghost use Rattle.std.specs.Prelude.{◌≡◌, ◌<◌, true, false, MatchOption, IfSome};
 ghost use Rattle.serde_json.specs.View.{view};
-ghost use Rattle.text_defs.specs.Instances.{has, whole_at, has_both, is_point, point_of, index_in, below};
+ghost use Rattle.text_defs.specs.Instances.{has_both, is_point, point_of, index_in};
 ghost use Rattle.instance_io.specs.Refusal.{coordinates};
 
-use crate::whole_numbers::whole;
+use json_text::{below, has, whole_at};
 use plane::Point;
 use serde_json::Value;
-
-pub(crate) fn has(item: &Value, key: &str) -> bool
-    ensures { result ≡ has key.now (view item.now) }
-{
-    item.get(key).is_some()
-}
-
-/// The whole number under a key.
-pub fn whole_at(item: &Value, key: &str) -> Option<i64>
-    ensures { result ≡ whole_at key.now (view item.now) }
-{
-    match item.get(key) {
-        Some(value) => whole(value),
-        None => None,
-    }
-}
 
 pub(crate) fn has_both(item: &Value) -> bool
     ensures { result ≡ has_both (view item.now) }
@@ -49,17 +33,5 @@ pub(crate) fn index_of(item: &Value, count: usize) -> Option<usize>
     match whole_at(item, "i") {
         Some(i) => below(i, count),
         None => None,
-    }
-}
-
-/// A whole number as an index below `count`, or none.
-pub fn below(number: i64, count: usize) -> Option<usize>
-    ensures value { result ≡ below count number }
-    ensures bound { IfSome result (λ i. i < count) }
-{
-    if number < 0 || number as u64 >= count as u64 {
-        None
-    } else {
-        Some(number as usize)
     }
 }

@@ -7,7 +7,8 @@ ghost use Rattle.instance_io.specs.Refusal.{coordinates};
 ghost use Rattle.instance_io.specs.Told.{Tells, is_seen, lack_of};
 
 use crate::instances::InstanceFault;
-use crate::items::{has, has_both, index_of, point_of};
+use crate::items::{has_both, index_of, point_of};
+use json_text::has;
 use plane::Point;
 use serde_json::Value;
 use std::alloc::Global;

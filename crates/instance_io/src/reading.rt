@@ -1,12 +1,11 @@
-// A text as a JSON value.
-ghost use Rattle.std.specs.Prelude.{◌≡◌, MatchResult, Some, None};
+// A text as a JSON value, refused by an instance's fault.
+ghost use Rattle.std.specs.Prelude.{◌≡◌, MatchResult, Some};
 ghost use Rattle.serde_json.specs.View.{view};
 ghost use Rattle.text_defs.specs.Reading.{json_reading};
 ghost use Rattle.instance_io.specs.Refusal.{RefusesText};
 
 use crate::instances::InstanceFault;
-use crate::levels::has_few_levels;
-use crate::rewriting::plain_numbers;
+use json_text::{TextFault, value_of};
 use serde_json::Value;
 use std::alloc::Global;
 
@@ -16,21 +15,9 @@ pub fn read_value(alloc: Global, bytes: &[u8]) -> Result<Value, InstanceFault>
     ensures { MatchResult result (λ value. json_reading bytes.now ≡ Some (view value))
         (λ fault. RefusesText fault (json_reading bytes.now)) }
 {
-    if !has_few_levels(bytes) {
-        return Err(InstanceFault::NotJson);
-    }
-    let plain = match plain_numbers(alloc, bytes) {
-        Ok(plain) => plain,
-        Err(_) => return Err(InstanceFault::NoMemory),
-    };
-    match Value::from_slice(alloc, &plain) {
+    match value_of(alloc, bytes) {
         Ok(value) => Ok(value),
-        Err(error) => {
-            if error.is_memory() {
-                Err(InstanceFault::NoMemory)
-            } else {
-                Err(InstanceFault::NotJson)
-            }
-        }
+        Err(TextFault::NotJson) => Err(InstanceFault::NotJson),
+        Err(TextFault::NoMemory) => Err(InstanceFault::NoMemory),
     }
 }

@@ -1,124 +1,6 @@
-use crate::{InstanceFault, plain_numbers, read_instance, read_value, whole, write_instance};
-use mcp_outside::NoMemory;
+use crate::{InstanceFault, read_instance, write_instance};
 use plane::BadPoints;
-use serde_json::Value;
 use std::alloc::AllocError;
-
-#[test]
-fn numbers_become_whole(rt: HostRuntime) -> Result<(), NoMemory> {
-    let table: [(&[u8], &[u8]); 14] = [
-        (b"12.0", b"12"),
-        (b"-0", b"0"),
-        (b"\"12\"", b"\"12\""),
-        (b"1e3", b"null"),
-        (b"12.5", b"null"),
-        (b"12.50", b"null"),
-        (b"-0.0", b"0"),
-        (b"+1", b"+1"),
-        (b"01", b"01"),
-        (b"[1.00,-7.,true,-]", b"[1,-7.,true,-]"),
-        (b"{\"1.0\\\"-0\":-3.0}", b"{\"1.0\\\"-0\":-3}"),
-        (
-            b"9223372036854775807 9223372036854775808",
-            b"9223372036854775807 9223372036854775807",
-        ),
-        (
-            b"-9223372036854775808,-99999999999999999999.0",
-            b"-9223372036854775808,-9223372036854775808",
-        ),
-        (b"", b""),
-    ];
-    for (text, want) in table {
-        let plain = plain_numbers(rt.alloc(), text)?;
-        assert!(rt;
-            plain.as_slice() == want,
-            "a number was rewritten otherwise"
-        );
-    }
-    Ok(())
-}
-
-fn is_refused(rt: &HostRuntime, text: &[u8]) -> bool {
-    match read_value(rt.alloc(), text) {
-        Ok(_) => false,
-        Err(fault) => fault == InstanceFault::NotJson,
-    }
-}
-
-#[test]
-fn other_texts_are_refused(rt: HostRuntime) {
-    let table: [&[u8]; 14] = [
-        b"",
-        b" ",
-        b"+1",
-        b"01",
-        b"1.",
-        b"[1,]",
-        b"{} 1",
-        b"{\"a\":1}x",
-        b"\xEF\xBB\xBF{}",
-        b"\"\xFF\"",
-        b"\"\x01\"",
-        b"\"\n\"",
-        b"\"\\uD800\"",
-        b"\x1F\x8B\x08",
-    ];
-    for text in table {
-        assert!(rt; is_refused(&rt, text), "a text was read");
-    }
-}
-
-// `count` levels round a string of brackets.
-fn nested(rt: &HostRuntime, count: usize) -> Result<Vec<u8>, AllocError> {
-    let mut text = Vec::new(rt.alloc());
-    for _ in 0..count {
-        text.push(b'[')?;
-    }
-    text.extend_from_slice(b"\"[[[[\\\"[[\"")?;
-    for _ in 0..count {
-        text.push(b']')?;
-    }
-    Ok(text)
-}
-
-#[test]
-fn levels_end_at_64(rt: HostRuntime) -> Result<(), AllocError> {
-    let most = nested(&rt, 64)?;
-    assert!(rt; read_value(rt.alloc(), &most).is_ok());
-    let more = nested(&rt, 65)?;
-    assert!(rt; is_refused(&rt, &more));
-    Ok(())
-}
-
-#[test]
-fn values_give_whole_numbers(rt: HostRuntime) {
-    let table: [(&[u8], Option<i64>); 16] = [
-        (b"12.0", Some(12)),
-        (b"-0", Some(0)),
-        (b"\"12\"", Some(12)),
-        (b"\"-0012\"", Some(-12)),
-        (b"\"-\"", None),
-        (b"\"\"", None),
-        (b"\"+1\"", None),
-        (b"\"1.0\"", None),
-        (b"1e3", None),
-        (b"12.5", None),
-        (b"99999999999999999999", Some(i64::MAX)),
-        (b"-9223372036854775809", Some(i64::MIN)),
-        (b"\"9223372036854775808\"", Some(i64::MAX)),
-        (b"\"-9223372036854775807\"", Some(-9223372036854775807)),
-        (b"\"-99999999999999999999\"", Some(i64::MIN)),
-        (b"[1]", None),
-    ];
-    for (text, want) in table {
-        let found = match read_value(rt.alloc(), text) {
-            Ok(value) => whole(&value),
-            Err(_) => Some(1),
-        };
-        assert_eq!(rt; found, want);
-    }
-    assert!(rt; whole(&Value::Null).is_none());
-}
 
 // What is written for the instance that a text is, or its fault.
 fn written(rt: &HostRuntime, text: &[u8]) -> Result<Vec<u8>, InstanceFault> {
@@ -277,6 +159,134 @@ fn names_end_at_1000_bytes(rt: HostRuntime) -> Result<(), AllocError> {
             Err(fault) => fault == want,
         };
         assert!(rt; same, "a name was measured otherwise");
+    }
+    Ok(())
+}
+
+#[test]
+fn costs_are_read_and_written(rt: HostRuntime) {
+    let table: [(&[u8], &[u8]); 3] = [
+        (
+            b"{\"name\":\"\",\"points\":[{\"x\":0,\"y\":0},{\"x\":9,\"y\":0},{\"x\":0,\"y\":9},{\"x\":1,\"y\":1}],\"costs\":[]}",
+            b"{\"name\":\"\",\"points\":[{\"i\":0,\"x\":0,\"y\":0},{\"i\":1,\"x\":9,\"y\":0},{\"i\":2,\"x\":0,\"y\":9},{\"i\":3,\"x\":1,\"y\":1}]}",
+        ),
+        (
+            b"{\"name\":\"\",\"points\":[{\"x\":0,\"y\":0},{\"x\":9,\"y\":0},{\"x\":0,\"y\":9},{\"x\":1,\"y\":1}],\"costs\":[[0,1,1]]}",
+            b"{\"name\":\"\",\"points\":[{\"i\":0,\"x\":0,\"y\":0},{\"i\":1,\"x\":9,\"y\":0},{\"i\":2,\"x\":0,\"y\":9},{\"i\":3,\"x\":1,\"y\":1}]}",
+        ),
+        (
+            b"{\"name\":\"\",\"points\":[{\"x\":0,\"y\":0},{\"x\":9,\"y\":0},{\"x\":0,\"y\":9},{\"x\":1,\"y\":1}],\"costs\":[[3,1,0],[0,2,1],[\"1\",\"0\",\"1000\"],[0,3,7.0]]}",
+            b"{\"costs\":[[0,1,1000],[0,3,7],[1,3,0]],\"name\":\"\",\"points\":[{\"i\":0,\"x\":0,\"y\":0},{\"i\":1,\"x\":9,\"y\":0},{\"i\":2,\"x\":0,\"y\":9},{\"i\":3,\"x\":1,\"y\":1}]}",
+        ),
+    ];
+    for (text, want) in table {
+        let same = match written(&rt, text) {
+            Ok(bytes) => bytes.as_slice() == want,
+            Err(_) => false,
+        };
+        assert!(rt; same, "costs were read or written otherwise");
+    }
+}
+
+#[test]
+fn faults_of_costs_have_their_places(rt: HostRuntime) {
+    let table: [(&[u8], InstanceFault); 15] = [
+        (
+            b"{\"name\":\"\",\"points\":[{\"x\":0,\"y\":0},{\"x\":9,\"y\":0},{\"x\":0,\"y\":9},{\"x\":1,\"y\":1}],\"costs\":7}",
+            InstanceFault::BadCosts,
+        ),
+        (
+            b"{\"name\":\"\",\"points\":[{\"x\":0,\"y\":0},{\"x\":9,\"y\":0},{\"x\":0,\"y\":9},{\"x\":1,\"y\":1}],\"costs\":null}",
+            InstanceFault::BadCosts,
+        ),
+        (
+            b"{\"name\":\"\",\"points\":[{\"x\":0,\"y\":0},{\"x\":9,\"y\":0},{\"x\":0,\"y\":9},{\"x\":1,\"y\":1}],\"costs\":[7]}",
+            InstanceFault::BadCost(0),
+        ),
+        (
+            b"{\"name\":\"\",\"points\":[{\"x\":0,\"y\":0},{\"x\":9,\"y\":0},{\"x\":0,\"y\":9},{\"x\":1,\"y\":1}],\"costs\":[[0,1,2],[0,1]]}",
+            InstanceFault::BadCost(1),
+        ),
+        (
+            b"{\"name\":\"\",\"points\":[{\"x\":0,\"y\":0},{\"x\":9,\"y\":0},{\"x\":0,\"y\":9},{\"x\":1,\"y\":1}],\"costs\":[[0,1,2,3]]}",
+            InstanceFault::BadCost(0),
+        ),
+        (
+            b"{\"name\":\"\",\"points\":[{\"x\":0,\"y\":0},{\"x\":9,\"y\":0},{\"x\":0,\"y\":9},{\"x\":1,\"y\":1}],\"costs\":[[0,1,2],[2,2,5]]}",
+            InstanceFault::BadCost(1),
+        ),
+        (
+            b"{\"name\":\"\",\"points\":[{\"x\":0,\"y\":0},{\"x\":9,\"y\":0},{\"x\":0,\"y\":9},{\"x\":1,\"y\":1}],\"costs\":[[0,4,2]]}",
+            InstanceFault::BadCost(0),
+        ),
+        (
+            b"{\"name\":\"\",\"points\":[{\"x\":0,\"y\":0},{\"x\":9,\"y\":0},{\"x\":0,\"y\":9},{\"x\":1,\"y\":1}],\"costs\":[[-1,0,2]]}",
+            InstanceFault::BadCost(0),
+        ),
+        (
+            b"{\"name\":\"\",\"points\":[{\"x\":0,\"y\":0},{\"x\":9,\"y\":0},{\"x\":0,\"y\":9},{\"x\":1,\"y\":1}],\"costs\":[[0,1,1000],[0,2,1001]]}",
+            InstanceFault::BadCost(1),
+        ),
+        (
+            b"{\"name\":\"\",\"points\":[{\"x\":0,\"y\":0},{\"x\":9,\"y\":0},{\"x\":0,\"y\":9},{\"x\":1,\"y\":1}],\"costs\":[[0,1,-1]]}",
+            InstanceFault::BadCost(0),
+        ),
+        (
+            b"{\"name\":\"\",\"points\":[{\"x\":0,\"y\":0},{\"x\":9,\"y\":0},{\"x\":0,\"y\":9},{\"x\":1,\"y\":1}],\"costs\":[[0,1,1.5]]}",
+            InstanceFault::BadCost(0),
+        ),
+        (
+            b"{\"name\":\"\",\"points\":[{\"x\":0,\"y\":0},{\"x\":9,\"y\":0},{\"x\":0,\"y\":9},{\"x\":1,\"y\":1}],\"costs\":[[0,1,2],[2,3,4],[1,0,2]]}",
+            InstanceFault::BadCost(2),
+        ),
+        (
+            b"{\"name\":\"\",\"points\":[{\"x\":0,\"y\":0},{\"x\":9,\"y\":0},{\"x\":0,\"y\":9},{\"x\":1,\"y\":1}],\"costs\":[[0,1,1],[0,1,1]]}",
+            InstanceFault::BadCost(1),
+        ),
+        (
+            b"{\"name\":\"\",\"points\":[{\"x\":0,\"y\":0},{\"x\":9,\"y\":0},{\"x\":0,\"y\":9},{\"x\":1,\"y\":1}],\"costs\":[[0,1,2],[1,0,5],[9,9,9]]}",
+            InstanceFault::BadCost(1),
+        ),
+        (
+            b"{\"costs\":[7],\"name\":\"\",\"points\":[{\"x\":0,\"y\":0},{\"x\":1,\"y\":0},{\"x\":2,\"y\":0}]}",
+            InstanceFault::Bad(BadPoints::OneLine),
+        ),
+    ];
+    for (text, want) in table {
+        let same = match written(&rt, text) {
+            Ok(_) => false,
+            Err(fault) => fault == want,
+        };
+        assert!(rt; same, "another fault of costs was found");
+    }
+}
+
+// An instance of three points with so many equal items of costs.
+fn costed(rt: &HostRuntime, count: usize) -> Result<Vec<u8>, AllocError> {
+    let mut text = Vec::from_slice(
+        rt.alloc(),
+        b"{\"name\":\"\",\"points\":[{\"x\":0,\"y\":0},{\"x\":9,\"y\":0},{\"x\":0,\"y\":9}],\"costs\":[[0,1,5]",
+    )?;
+    for _ in 1..count {
+        text.extend_from_slice(b",[0,1,5]")?;
+    }
+    text.extend_from_slice(b"]}")?;
+    Ok(text)
+}
+
+#[test]
+fn costs_end_at_300000(rt: HostRuntime) -> Result<(), AllocError> {
+    let table = [
+        (300_000, InstanceFault::BadCost(1)),
+        (300_001, InstanceFault::TooManyCosts(300_001)),
+    ];
+    for (count, want) in table {
+        let text = costed(&rt, count)?;
+        let same = match read_instance(rt.alloc(), &text) {
+            Ok(_) => false,
+            Err(fault) => fault == want,
+        };
+        assert!(rt; same, "costs were counted otherwise");
     }
     Ok(())
 }

@@ -2,8 +2,9 @@
 use Rattle.std.proofs.Common.{◌≡◌, ◌≢◌, ℕ, List, map, Result, Ok, Err, Vec, Global, refl, sym, ap, ◌∙◌, subst}
 use Rattle.plane.specs.declared.segment.Pair.{Pair}
 use Rattle.text_defs.specs.Solutions.{Fault, not_json, no_edges, too_many_edges, bad_edge}
-use Rattle.instance_io.proofs.Exact.{err_same, ok_err}
-use Rattle.solution_io.specs.Refusal.{ends, HasFault, IsRead, IsExact}
+use Rattle.json_text.proofs.Laws.{err_same, ok_err}
+use Rattle.solution_io.specs.Refusal.{HasFault, IsRead, IsExact}
+use Rattle.instance_io.specs.Refusal.{ends}
 use Rattle.solution_io.specs.declared.fault.SolutionFault.{SolutionFault}
 use Rattle.solution_io.specs.declared.fault.SolutionFault.TheVariants.{NotJson, NoEdges, TooManyEdges, BadEdge, NoMemory}
 

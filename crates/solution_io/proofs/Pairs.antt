@@ -7,23 +7,16 @@ use Rattle.serde_json.specs.View.{view, items_view}
 use Rattle.serde_json.specs.declared.value.Value.{Value}
 use Rattle.plane.specs.declared.segment.Pair.{Pair}
 use Rattle.text_defs.specs.Reading.{json_reading}
-use Rattle.text_defs.specs.Steps.{array_at}
+use Rattle.text_defs.specs.Fields.{array_at}
 use Rattle.text_defs.specs.Solutions.{not_json, no_edges, too_many_edges, bad_edge, edge_of, edges_of, edges_in, edges_from}
-use Rattle.instance_io.proofs.Places.{NoneBefore, at_place, found_in, none_in}
-use Rattle.instance_io.proofs.Parts.{listed}
-use Rattle.solution_io.specs.Refusal.{ends, HasFault, IsRead}
+use Rattle.json_text.proofs.Laws.{NoneBefore, view-at, position-item, position-no_item, filter_map-push}
+use Rattle.text_defs.proofs.laws.Lists.{list_of-items_of}
+use Rattle.solution_io.specs.Refusal.{HasFault, IsRead}
+use Rattle.instance_io.specs.Refusal.{ends}
 use Rattle.solution_io.specs.declared.fault.SolutionFault.{SolutionFault}
 
 abbrev pub is_no_edge : ℕ → Data → Bool
 is_no_edge n d = not (is_some (edge_of n d))
-
-cons_push : {X : Type 0} (o : Option X) (xs : List X) (y : X) → cons_option o (xs ++ y ∷ []) ≡ cons_option o xs ++ y ∷ []
-cons_push None xs y = refl
-cons_push (Some x) xs y = refl
-
-filter_push : {X Y : Type 0} (h : X → Option Y) (xs : List X) (x : X) (y : Y) → h x ≡ Some y → filter_map h (xs ++ x ∷ []) ≡ filter_map h xs ++ y ∷ []
-filter_push h [] x y e = rw e refl
-filter_push h (z ∷ xs) x y e = ap (cons_option (h z)) (filter_push h xs x y e) ∙ cons_push (h z) (filter_map h xs) y
 
 few : (vs : List Value) → length vs ≤ 20000 → nat_le (length (map view vs)) 20000 ≡ true
 few vs h = let e = length-map vs view in grind (arith, e)
@@ -37,7 +30,7 @@ an_edge n d p e = ap (λ o. not (is_some o)) (sym e)
 pub edge_missing : (n : ℕ) (vs : List Value) (k : ℕ) (v : Value) → length vs ≤ 20000 → k < length vs → v ≡ get_or vs k v → NoneBefore (is_no_edge n) (map view vs) k
     → None ≡ edge_of n (view v) → edges_of n (map view vs) ≡ Err (bad_edge k)
 edge_missing n vs k v f h e b q =
-    let place = found_in (is_no_edge n) vs k v h e b (no_edge n (view v) q) in
+    let place = position-item (is_no_edge n) vs k v h e b (no_edge n (view v) q) in
     rw (few vs f, place) refl
 
 pub edges_more : (n : ℕ) (pairs : List Pair) (p : Pair) (vs : List Value) (k : ℕ) (v : Value) → k < length vs → v ≡ get_or vs k v
@@ -45,14 +38,14 @@ pub edges_more : (n : ℕ) (pairs : List Pair) (p : Pair) (vs : List Value) (k :
     → map ends (pairs ++ p ∷ []) ≡ filter_map (edge_of n) (take (k + 1) (map view vs))
 edges_more n pairs p vs k v h e s q =
     let more : take (k + 1) (map view vs) ≡ take k (map view vs) ++ view v ∷ [] =
-    take_more (map view vs) k null (rw (length-map vs view) h) ∙ ap (λ d. take k (map view vs) ++ d ∷ []) (at_place vs k v h e) in
+    take_more (map view vs) k null (rw (length-map vs view) h) ∙ ap (λ d. take k (map view vs) ++ d ∷ []) (view-at vs k v h e) in
     map-append ends pairs (p ∷ []) ∙ (ap (λ xs. xs ++ ends p ∷ []) s
-    ∙ (sym (filter_push (edge_of n) (take k (map view vs)) (view v) (ends p) (sym q)) ∙ ap (filter_map (edge_of n)) (sym more)))
+    ∙ (sym (filter_map-push (edge_of n) (take k (map view vs)) (view v) (ends p) (sym q)) ∙ ap (filter_map (edge_of n)) (sym more)))
 
 pub all_edges : (n : ℕ) (pairs : List Pair) (vs : List Value) (k : ℕ) → length vs ≤ 20000 → length vs ≤ k → NoneBefore (is_no_edge n) (map view vs) k
     → map ends pairs ≡ filter_map (edge_of n) (take k (map view vs)) → edges_of n (map view vs) ≡ Ok (map ends pairs)
 all_edges n pairs vs k f h b s =
-    let place = none_in (is_no_edge n) vs k h b in
+    let place = position-no_item (is_no_edge n) vs k h b in
     let all : filter_map (edge_of n) (map view vs) ≡ map ends pairs =
     ap (filter_map (edge_of n)) (sym (take_all k (map view vs) (let e = length-map vs view in omega (arith, e)))) ∙ sym s in
     rw (few vs f, place, all) refl
@@ -65,7 +58,7 @@ no_array n d h = rw (← h) refl
 
 of_array : (n : ℕ) (d : Data) (vs : List Value) → Some (items_view vs) ≡ array_at (codes "edges") d → edges_in n d ≡ edges_of n (map view vs)
 unfolding edges_in
-of_array n d vs h = rw (← h, listed (map view vs)) refl
+of_array n d vs h = rw (← h, list_of-items_of (map view vs)) refl
 
 pub array_answer : (n : ℕ) (d : Data) (vs : List Value) (result : Result (Vec Pair Global) SolutionFault) → Some (items_view vs) ≡ array_at (codes "edges") d
     → IsRead (edges_of n (map view vs)) result → IsRead (edges_in n d) result

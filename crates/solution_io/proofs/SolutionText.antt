@@ -7,7 +7,7 @@ use Rattle.serde_json.specs.View.{items_of}
 use Rattle.serde_json.specs.Written.{comma_if, compact_text, items_text}
 use Rattle.plane.specs.declared.segment.Pair.{Pair}
 use Rattle.text_defs.specs.Texts.{edge_data, solution_text}
-use Rattle.solution_io.specs.Refusal.{ends}
+use Rattle.instance_io.specs.Refusal.{ends}
 
 pub edge_text : (i j : ℕ) → compact_text (edge_data (i, j)) ≡ codes "{\"i\":" ++ (decimal i ++ (codes ",\"j\":" ++ (decimal j ++ 125 ∷ [])))
 unfolding escape_byte

@@ -2,13 +2,10 @@
 use Rattle.std.specs.Prelude.{◌≡◌, ◌≢◌, ◌↔◌, ℕ, List, map, Result, Ok, Err, Vec}
 use Rattle.std.specs.declared.alloc.Global.{Global}
 use Rattle.plane.specs.declared.segment.Pair.{Pair}
+use Rattle.instance_io.specs.Refusal.{ends}
 use Rattle.text_defs.specs.Solutions.{Fault, not_json, no_edges, too_many_edges, bad_edge}
 use Rattle.solution_io.specs.declared.fault.SolutionFault.{SolutionFault}
 use Rattle.solution_io.specs.declared.fault.SolutionFault.TheVariants.{NotJson, NoEdges, TooManyEdges, BadEdge, NoMemory}
-
--- the ends of a pair, the smaller first
-abbrev pub ends : Pair → ℕ × ℕ
-ends e = (e.lo, e.hi)
 
 -- the fault of a reading; want of memory says nothing
 abbrev pub HasFault : Result (List (ℕ × ℕ)) Fault → SolutionFault → Type 0

@@ -1,11 +1,13 @@
 // The pairs of an array of items.
 ghost use Rattle.std.specs.Prelude.{◌≡◌, ◌<◌, ◌≤◌, ◌^◌, map, length, false, true, is_some, option_map};
 ghost use Rattle.serde_json.specs.View.{view};
-ghost use Rattle.text_defs.specs.Solutions.{edge_of, edges_of, end_at, pair_of, most_edges};
-ghost use Rattle.solution_io.specs.Refusal.{IsRead, ends};
+ghost use Rattle.text_defs.specs.Solutions.{edge_of, edges_of, end_at, most_edges};
+ghost use Rattle.instance_io.specs.Refusal.{ends};
+ghost use Rattle.solution_io.specs.Refusal.{IsRead};
 
 use crate::fault::SolutionFault;
-use instance_io::{below, whole_at};
+use instance_io::pair_of;
+use json_text::{below, whole_at};
 use plane::Pair;
 use serde_json::Value;
 use std::alloc::Global;
@@ -21,12 +23,6 @@ fn end_at(item: &Value, key: &str, n: u32) -> Option<u32>
         },
         None => None,
     }
-}
-
-fn pair_of(i: u32, j: u32) -> Option<Pair>
-    ensures { option_map ends result ≡ pair_of i j }
-{
-    if i == j { None } else { Some(Pair::of(i, j)) }
 }
 
 // The pair that an item is, or none.

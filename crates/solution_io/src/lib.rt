@@ -3,6 +3,7 @@
 
 mod edges;
 mod fault;
+pub mod laws;
 mod reading;
 mod writing;
 

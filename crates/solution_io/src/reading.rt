@@ -6,7 +6,7 @@ ghost use Rattle.solution_io.specs.Refusal.{IsRead, IsExact, IsTooMany};
 
 use crate::edges::edges_of;
 use crate::fault::SolutionFault;
-use instance_io::{InstanceFault, array_at, read_value};
+use json_text::{TextFault, array_at, value_of};
 use plane::Pair;
 use serde_json::Value;
 use std::alloc::Global;
@@ -44,9 +44,9 @@ pub fn read_solution(alloc: Global, bytes: &[u8], n: u32) -> Result<Vec<Pair>, S
     ensures answer { IsRead (edges_from n bytes.now) result }
     ensures exact { IsExact (edges_from n bytes.now) result }
 {
-    match read_value(alloc, bytes) {
+    match value_of(alloc, bytes) {
         Ok(value) => solution_of(alloc, &value, n),
-        Err(InstanceFault::NotJson) => Err(SolutionFault::NotJson),
-        Err(_) => Err(SolutionFault::NoMemory),
+        Err(TextFault::NotJson) => Err(SolutionFault::NotJson),
+        Err(TextFault::NoMemory) => Err(SolutionFault::NoMemory),
     }
 }

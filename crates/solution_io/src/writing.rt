@@ -2,9 +2,10 @@
 ghost use Rattle.std.specs.Prelude.{◌≡◌, ◌++◌, ◌<◌, nat_lt, map, IfOk};
 ghost use Rattle.serde_json.specs.Written.{comma_if, compact_text};
 ghost use Rattle.text_defs.specs.Texts.{solution_text, edge_data};
-ghost use Rattle.solution_io.specs.Refusal.{ends};
+ghost use Rattle.instance_io.specs.Refusal.{ends};
 
-use instance_io::{Name, push_comma, push_index, quoted};
+use instance_io::Name;
+use json_text::{push_comma, push_index, quoted};
 use mcp_outside::NoMemory;
 use plane::Pair;
 use std::alloc::Global;

@@ -3,7 +3,7 @@ use Rattle.std.proofs.Common.{◌≡◌, ℕ, ◌+◌, ◌≤◌, List, [], ◌�
 use Rattle.std.specs.Fmt.{decimal}
 use Rattle.std.proofs.lemmas.Fmt.{decimal_injective}
 use Rattle.generator.specs.declared.kinds.Kind.{Kind}
-use Rattle.generator.specs.declared.kinds.Kind.TheVariants.{Scatter, Grid, Ring}
+use Rattle.generator.specs.declared.kinds.Kind.TheVariants.{Scatter, Grid, Ring, Wide}
 use Rattle.generator.specs.Names.{kind_word}
 use Rattle.solver_top.specs.declared.words.Command.{Command}
 use Rattle.solver_top.specs.declared.words.Command.TheVariants.{Judge, Start, Gen}
@@ -36,13 +36,14 @@ first_is words Start line = ([], line)
 first_is words (Gen kind n seed) line = (kind_word kind ∷ decimal n ∷ decimal seed ∷ [], line.0)
 
 abbrev kind_words : List (List ℕ)
-kind_words = codes "scatter" ∷ codes "grid" ∷ codes "ring" ∷ []
+kind_words = codes "scatter" ∷ codes "grid" ∷ codes "ring" ∷ codes "wide" ∷ []
 
 -- a kind is known by its word
 kind_same : (a b : Kind) → place kind_words (kind_word a) ≡ place kind_words (kind_word b) → a ≡ b
 kind_same Scatter Scatter e = refl
 kind_same Grid Grid e = refl
 kind_same Ring Ring e = refl
+kind_same Wide Wide e = refl
 kind_same a b e = absurd (omega (arith, e))
 
 gen_same : (words : List (List ℕ)) (k l : Kind) (n m s t : ℕ) → IsLineOf words (Gen k n s) → IsLineOf words (Gen l m t) → ◌≡◌ {A = Command} (Gen k n s) (Gen l m t)

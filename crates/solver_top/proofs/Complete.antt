@@ -1,5 +1,5 @@
 -- Words that are a line, and an input that has its reading, are answered by Done or No.
-use Rattle.std.proofs.Common.{◌≡◌, ℕ, ◌≤◌, List, length, map, Option, Result, Ok, ◌⊎◌, inl, inr, refl, arith, sym, ◌∙◌, ap, subst, ℤ}
+use Rattle.std.proofs.Common.{◌≡◌, ◌≢◌, ℕ, ◌≤◌, List, [], ◌∷◌, length, map, codes, Option, Result, Ok, ◌⊎◌, inl, inr, refl, arith, sym, ◌∙◌, ap, subst, ℤ, get_or}
 use Rattle.serde_json.specs.Data.{Data}
 use Rattle.plane.specs.declared.coordinates.Point.{Point}
 use Rattle.plane.specs.declared.coordinates.BadPoints.{BadPoints}
@@ -13,11 +13,13 @@ use Rattle.text_defs.specs.Solutions as edges
 use Rattle.text_defs.specs.Bundles as bundle
 use Rattle.instance_io.specs.declared.instances.Instance.{Instance}
 use Rattle.instance_io.specs.declared.instances.InstanceFault.{InstanceFault}
-use Rattle.instance_io.specs.Refusal.{Gives, HasFault, coordinates}
-use Rattle.instance_io.proofs.Exact.{exact_ok, ok_err}
+use Rattle.cost_defs.specs.Costs.{Costed}
+use Rattle.instance_io.specs.Refusal.{Gives, HasFault, ends}
+use Rattle.json_text.proofs.Laws.{ok_same, ok_err}
+use Rattle.instance_io.proofs.laws.Readings.{gives_no_fault, gives_once}
 use Rattle.solution_io.specs.declared.fault.SolutionFault.{SolutionFault}
 use Rattle.solution_io.specs.declared.fault.SolutionFault.TheVariants as solution
-use Rattle.solution_io.specs.Refusal.{ends, HasFault as HasEdgesFault}
+use Rattle.solution_io.specs.Refusal.{HasFault as HasEdgesFault}
 use Rattle.solver_top.specs.declared.words.Command.{Command}
 use Rattle.solver_top.specs.declared.words.Command.TheVariants.{Judge, Start, Gen}
 use Rattle.solver_top.specs.Statuses.{status_of}
@@ -34,33 +36,11 @@ use Rattle.solver_top.proofs.Commands.{line_command_same}
 use Rattle.solver_top.specs.Bundles.{HasParts, HasBundle, HasRefusal, HasBundleFault, IsNamed, IsNamedSolution}
 use Rattle.solver_top.specs.Answers.{IsAnswer, IsAnswerOf, IsJudged, IsStarted, IsTooLong, HasInput, IsRefused, IsRefusedInstance, most_input}
 
-no_fault : (S : List Point) (b : BadPoints) → AreAccepted S → IsFault S b → ⊥
-no_fault S (TooFew n) ok h = omega (arith, ok.count.0, h.1, h.0)
-no_fault S (TooMany n) ok h = omega (arith, ok.count.1, h.1, h.0)
-no_fault S (TooFar i) ok h = h.1.holds (ok.near i h.1.within)
-no_fault S (SamePlace i j) ok h = ok.apart i j h.2.ordered h.2.within h.2.holds
-no_fault S OneLine ok h = let (p, q, r, hp, hq, hr, bent) = ok.spread in bent (h.3 p q r hp hq hr)
-
--- an instance with accepted points has no fault
-given_no_fault : (reading : _) (name : List ℕ) (S : List Point) (f : InstanceFault) → Gives reading name S → AreAccepted S → IsNamed f → HasFault reading f → ⊥
-given_no_fault reading name S f gives ok named fault =
-    let i : Instance = record { name = name; points = S } in
-    ok_err ((exact_ok reading name S i gives (λ b. no_fault S b ok) (λ e. ok_err e) f named).1 fault)
-
-ok_same : {A E : Type 0} {x y : A} → ◌≡◌ {A = Result A E} (Ok x) (Ok y) → x ≡ y
-ok_same e = cc
-
 parts_same : (input : List ℕ) (a b c d : Data) → HasParts input a b → HasParts input c d → (a ≡ c) × (b ≡ d)
 parts_same input a b c d h k =
     let e : ◌≡◌ {A = Result (Data × Data) bundle.Fault} (Ok (a, b)) (Ok (c, d)) = sym h ∙ k in
     let pair : (a, b) ≡ (c, d) = ok_same e in
     (ap (λ (p : Data × Data). p.0) pair, ap (λ (p : Data × Data). p.1) pair)
-
-count_same : (reading : Result (List ℕ × List (ℤ × ℤ)) Fault) (n m : List ℕ) (S T : List Point) → Gives reading n S → Gives reading m T → length S ≡ length T
-count_same reading n m S T h k =
-    let e : ◌≡◌ {A = Result (List ℕ × List (ℤ × ℤ)) Fault} (Ok (n, map coordinates S)) (Ok (m, map coordinates T)) = sym h ∙ k in
-    let f : map coordinates S ≡ map coordinates T = ap (λ (p : List ℕ × List (ℤ × ℤ)). p.1) (ok_same e) in
-    sym (length-map S coordinates) ∙ ap length f ∙ length-map T coordinates
 
 no_bundle_fault : (reading : Result (Data × Data) bundle.Fault) (x : Data × Data) (f : BundleFault) → reading ≡ Ok x → HasBundleFault reading f → ⊥
 no_bundle_fault reading x NotJson e h = ok_err (sym e ∙ h)
@@ -77,11 +57,11 @@ no_edges_fault reading ps solution.NoMemory e named h = named refl
 -- a bundle that has its reading isn't refused
 pub no_refusal : (input : List ℕ) (S : List Point) (K : List Pair) (refusal : Refusal) → HasBundle input S K → HasRefusal input refusal → ⊥
 no_refusal input S K (Bundle f) (a, b, parts, points, edges) h = no_bundle_fault (bundle.parts_from input) (a, b) f parts h
-no_refusal input S K (OfInstance f) (a, b, parts, (name, gives, ok), edges) (c, d, others, named, fault) =
-    given_no_fault (instance_in a) name S f gives ok named (subst (λ (x : Data). HasFault (instance_in x) f) (sym (parts_same input a b c d parts others).0) fault)
-no_refusal input S K (Solution f) (a, b, parts, (name, gives, ok), edges) (c, d, others, (T, (m, told, fine), named, fault)) =
+no_refusal input S K (OfInstance f) (a, b, parts, (name, D, gives, ok), edges) (c, d, others, named, fault) =
+    gives_no_fault (instance_in a) name S D f gives ok named (subst (λ (x : Data). HasFault (instance_in x) f) (sym (parts_same input a b c d parts others).0) fault)
+no_refusal input S K (Solution f) (a, b, parts, (name, D, gives, ok), edges) (c, d, others, (T, (m, E, told, fine), named, fault)) =
     let same = parts_same input a b c d parts others in
-    let count = count_same (instance_in a) name m S T gives (subst (λ (x : Data). Gives (instance_in x) m T) (sym same.0) told) in
+    let count = ap length (gives_once (instance_in a) name m S T D E gives (subst (λ (x : Data). Gives (instance_in x) m T E) (sym same.0) told)).1 in
     no_edges_fault (edges_in (length S) b) (map ends K) f edges named
     (subst (λ (x : Data). HasEdgesFault (edges_in (length S) x) f) (sym same.1) (subst (λ (n : ℕ). HasEdgesFault (edges_in n d) f) (sym count) fault))
 
@@ -89,7 +69,7 @@ pub not_refused : (input text : List ℕ) → HasInput Judge input → IsRefused
 not_refused input text (few, (S, K, has)) (refusal, h, e) = no_refusal input S K refusal has h
 
 pub not_refused_instance : (input text : List ℕ) → HasInput Start input → IsRefusedInstance input text → ⊥
-not_refused_instance input text (few, (name, S, gives, ok)) (f, named, fault, e) = given_no_fault (instance_from input) name S f gives ok named fault
+not_refused_instance input text (few, (name, S, D, gives, ok)) (f, named, fault, e) = gives_no_fault (instance_from input) name S D f gives ok named fault
 
 abbrev IsAnswered : Verdict → Type 0
 IsAnswered verdict = (verdict ≡ Done) ⊎ (verdict ≡ No)
@@ -100,11 +80,11 @@ judged_answer input S K No text has h = inr refl
 judged_answer input S K Usage text has h = absurd h
 judged_answer input S K Refused text has (refusal, h, e) = absurd (no_refusal input S K refusal has h)
 
-started_answer : (input : List ℕ) (name : List ℕ) (S : List Point) (verdict : Verdict) (text : List ℕ) → Gives (instance_from input) name S → AreAccepted S → IsStarted input verdict text → IsAnswered verdict
-started_answer input name S Done text gives ok h = inl refl
-started_answer input name S No text gives ok h = absurd h
-started_answer input name S Usage text gives ok h = absurd h
-started_answer input name S Refused text gives ok (f, named, fault, e) = absurd (given_no_fault (instance_from input) name S f gives ok named fault)
+started_answer : (input : List ℕ) (name : List ℕ) (S : List Point) (D : List Costed) (verdict : Verdict) (text : List ℕ) → Gives (instance_from input) name S D → AreAccepted S → IsStarted input verdict text → IsAnswered verdict
+started_answer input name S D Done text gives ok h = inl refl
+started_answer input name S D No text gives ok h = absurd h
+started_answer input name S D Usage text gives ok h = absurd h
+started_answer input name S D Refused text gives ok (f, named, fault, e) = absurd (gives_no_fault (instance_from input) name S D f gives ok named fault)
 
 long_enough : (input : List ℕ) (left : Option (List ℕ)) (verdict : Verdict) (text : List ℕ) → length input ≤ most_input → IsTooLong input left verdict text → ⊥
 long_enough input left verdict text few h = omega (arith, h.0.0)
@@ -113,8 +93,8 @@ long_enough input left verdict text few h = omega (arith, h.0.0)
 command_answered : (command : Command) (input : List ℕ) (left : Option (List ℕ)) (verdict : Verdict) (text : List ℕ) → HasInput command input → IsAnswerOf command input left verdict text → IsAnswered verdict
 command_answered Judge input left verdict text (few, (S, K, has)) (inl long) = absurd (long_enough input left verdict text few long)
 command_answered Judge input left verdict text (few, (S, K, has)) (inr (len, at_end, h)) = judged_answer input S K verdict text has h
-command_answered Start input left verdict text (few, (name, S, gives, ok)) (inl long) = absurd (long_enough input left verdict text few long)
-command_answered Start input left verdict text (few, (name, S, gives, ok)) (inr (len, at_end, h)) = started_answer input name S verdict text gives ok h
+command_answered Start input left verdict text (few, (name, S, D, gives, ok)) (inl long) = absurd (long_enough input left verdict text few long)
+command_answered Start input left verdict text (few, (name, S, D, gives, ok)) (inr (len, at_end, h)) = started_answer input name S D verdict text gives ok h
 command_answered (Gen kind n seed) input left verdict text has (alone, (done, made)) = inl done
 
 -- words that are a line, and an input that has its reading, are answered by Done or No

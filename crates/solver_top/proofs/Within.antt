@@ -7,10 +7,10 @@ use Rattle.serde_json.specs.Data.{Data, Items}
 use Rattle.plane.specs.declared.coordinates.Point.{Point}
 use Rattle.plane.specs.declared.segment.Pair.{Pair}
 use Rattle.partition_defs.specs.Partition.{AreWithin}
-use Rattle.text_defs.specs.Instances.{below, whole_at}
-use Rattle.text_defs.specs.Solutions.{edge_of, end_at, pair_of, edges_of, edges_in, edge_fault, most_edges, Fault, no_edges, too_many_edges}
-use Rattle.text_defs.specs.Steps.{◌>>=◌, or_fault, unless, list_of, array_at}
-use Rattle.solution_io.specs.Refusal.{ends}
+use Rattle.text_defs.specs.Solutions.{edge_of, end_at, edges_of, edges_in, edge_fault, most_edges, Fault, no_edges, too_many_edges}
+use Rattle.text_defs.specs.Steps.{◌>>=◌, or_fault, unless}
+use Rattle.text_defs.specs.Fields.{below, whole_at, pair_of, list_of, array_at}
+use Rattle.instance_io.specs.Refusal.{ends}
 
 abbrev IsSmall : ℕ → ℕ × ℕ → Type 0
 IsSmall n p = p.1 < n

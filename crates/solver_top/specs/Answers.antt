@@ -12,8 +12,8 @@ use Rattle.cp_judge.specs.Judgement.{IsJudgement}
 use Rattle.plane.specs.Accepted.{AreAccepted}
 use Rattle.triangulate.specs.Start.{IsSortedStart}
 use Rattle.instance_io.specs.declared.instances.InstanceFault.{InstanceFault}
-use Rattle.instance_io.specs.Refusal.{coordinates, Gives, HasFault}
-use Rattle.solution_io.specs.Refusal.{ends}
+use Rattle.instance_io.specs.Refusal.{coordinates, ends, Gives, HasFault}
+use Rattle.cost_defs.specs.Costs.{Costed}
 use Rattle.text_defs.specs.Instances.{instance_from}
 use Rattle.text_defs.specs.Texts.{instance_text, solution_text}
 use Rattle.generator.specs.declared.kinds.Kind.{Kind}
@@ -53,8 +53,8 @@ IsRefusedInstance input text = (fault : InstanceFault) × IsNamed fault × HasFa
 
 -- the sweep triangulation of the instance that an input is: exactly the sweep pairs, ascending, under the instance's name
 abbrev pub IsStarted : List ℕ → Verdict → List ℕ → Type 0
-IsStarted input Done text = (name : List ℕ) × (S : List Point) × (T : List Pair) × Gives (instance_from input) name S × AreAccepted S
-    × IsSortedStart S T × (text ≡ solution_text name (map ends T) ++ codes "\n")
+IsStarted input Done text = (name : List ℕ) × (S : List Point) × (D : List Costed) × (T : List Pair)
+    × Gives (instance_from input) name S D × AreAccepted S × IsSortedStart S T × (text ≡ solution_text name (map ends T) ++ codes "\n")
 IsStarted input No text = ⊥
 IsStarted input Usage text = ⊥
 IsStarted input Refused text = IsRefusedInstance input text
@@ -62,7 +62,7 @@ IsStarted input Refused text = IsRefusedInstance input text
 -- the instance made from a number, and an LF
 abbrev pub IsGenerated : Kind → (n seed : ℕ) → List ℕ → Type 0
 IsGenerated kind n seed text = (S : List Point) × AreMade kind n seed S
-    × (text ≡ instance_text (made_name kind n seed) (map coordinates S) ++ codes "\n")
+    × (text ≡ instance_text [] (made_name kind n seed) (map coordinates S) ++ codes "\n")
 
 -- an input that is too long is refused before all else, one byte past the limit
 abbrev pub IsTooLong : List ℕ → Option (List ℕ) → Verdict → List ℕ → Type 0
@@ -116,5 +116,6 @@ IsAnswer words input left verdict text =
 -- the input has its reading for the command, within the limit
 abbrev pub HasInput : Command → List ℕ → Type 0
 HasInput Judge input = (length input ≤ most_input) × ((S : List Point) × (K : List Pair) × HasBundle input S K)
-HasInput Start input = (length input ≤ most_input) × ((name : List ℕ) × (S : List Point) × Gives (instance_from input) name S × AreAccepted S)
+HasInput Start input = (length input ≤ most_input)
+    × ((name : List ℕ) × (S : List Point) × (D : List Costed) × Gives (instance_from input) name S D × AreAccepted S)
 HasInput (Gen kind n seed) input = Unit {0}

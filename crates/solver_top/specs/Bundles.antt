@@ -5,6 +5,7 @@ use Rattle.serde_json.specs.Data.{Data}
 use Rattle.plane.specs.declared.coordinates.Point.{Point}
 use Rattle.plane.specs.declared.segment.Pair.{Pair}
 use Rattle.plane.specs.Accepted.{AreAccepted}
+use Rattle.cost_defs.specs.Costs.{Costed}
 use Rattle.text_defs.specs.Bundles as bundle
 use Rattle.text_defs.specs.Instances.{instance_in}
 use Rattle.text_defs.specs.Solutions.{edges_in}
@@ -13,7 +14,8 @@ use Rattle.instance_io.specs.declared.instances.InstanceFault.TheVariants as fau
 use Rattle.instance_io.specs.Refusal.{Gives, HasFault}
 use Rattle.solution_io.specs.declared.fault.SolutionFault.{SolutionFault}
 use Rattle.solution_io.specs.declared.fault.SolutionFault.TheVariants as solution
-use Rattle.solution_io.specs.Refusal.{ends, HasFault as HasEdgesFault}
+use Rattle.instance_io.specs.Refusal.{ends}
+use Rattle.solution_io.specs.Refusal.{HasFault as HasEdgesFault}
 use Rattle.solver_top.specs.Lines.{instance_fault_text}
 use Rattle.solver_top.specs.declared.refusals.BundleFault.{BundleFault}
 use Rattle.solver_top.specs.declared.refusals.BundleFault.TheVariants.{NotJson, NoInstance, NoSolution}
@@ -26,7 +28,7 @@ HasParts input instance solution = bundle.parts_from input ≡ Ok (instance, sol
 
 -- a value is an instance with these points
 abbrev pub HasPoints : Data → List Point → Type 0
-HasPoints d S = (name : List ℕ) × Gives (instance_in d) name S × AreAccepted S
+HasPoints d S = (name : List ℕ) × (D : List Costed) × Gives (instance_in d) name S D × AreAccepted S
 
 -- the input is a bundle of an instance with these points and a solution with these pairs
 abbrev pub HasBundle : List ℕ → List Point → List Pair → Type 0

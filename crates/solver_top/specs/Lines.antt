@@ -45,4 +45,7 @@ instance_fault_text (fault.NotWhole k) = numbered (codes "NotWhole ") k
 instance_fault_text (fault.MixedIndex k) = numbered (codes "MixedIndex ") k
 instance_fault_text (fault.BadIndex k) = numbered (codes "BadIndex ") k
 instance_fault_text (fault.Bad b) = points_fault_text b
+instance_fault_text fault.BadCosts = codes "BadCosts"
+instance_fault_text (fault.TooManyCosts k) = numbered (codes "TooManyCosts ") k
+instance_fault_text (fault.BadCost k) = numbered (codes "BadCost ") k
 instance_fault_text fault.NoMemory = codes "NoMemory"

@@ -78,6 +78,9 @@ pub fn instance_fault_text(alloc: Global, fault: InstanceFault) -> Result<String
         InstanceFault::MixedIndex(k) => format!(in alloc; "MixedIndex {k}"),
         InstanceFault::BadIndex(k) => format!(in alloc; "BadIndex {k}"),
         InstanceFault::Bad(bad) => points_fault_text(alloc, bad),
+        InstanceFault::BadCosts => format!(in alloc; "BadCosts"),
+        InstanceFault::TooManyCosts(k) => format!(in alloc; "TooManyCosts {k}"),
+        InstanceFault::BadCost(k) => format!(in alloc; "BadCost {k}"),
         InstanceFault::NoMemory => format!(in alloc; "NoMemory"),
     }
 }

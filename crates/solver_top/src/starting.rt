@@ -37,7 +37,7 @@ fn refused_instance(alloc: Global, bytes: &[u8], fault: InstanceFault) -> Result
 
 // The start of the instance that an input is.
 fn started_instance(alloc: Global, bytes: &[u8], instance: &Instance) -> Result<Answer, NoMemory>
-    requires { Gives (instance_from bytes.now) instance.now.name instance.now.points }
+    requires { Gives (instance_from bytes.now) instance.now.name instance.now.points instance.now.costs }
     ensures { IfOk result (λ answer. IsStarted bytes.now answer.verdict answer.text.items) }
 {
     let _count = instance.points.len();

@@ -64,6 +64,7 @@ fn kind_of(word: &str) -> Option<Kind>
         "scatter" => Some(Kind::Scatter),
         "grid" => Some(Kind::Grid),
         "ring" => Some(Kind::Ring),
+        "wide" => Some(Kind::Wide),
         _ => None,
     }
 }

@@ -1,5 +1,2 @@
-pub mod Pieces
-pub mod Rewriting
-pub mod Levels
-pub mod Reading
+pub mod laws
 pub mod Examples

@@ -1,13 +1,14 @@
 -- The instance that a value is, or the first fault (this project's own, after the challenge's files).
-use Rattle.std.specs.Prelude.{ℕ, List, [], ◌∷◌, length, map, take, Bool, true, false, not, ◌&&◌, ◌==◌, nat_lt, nat_le, if◌then◌else◌, ℤ, pos, negsuc, Option, Some, None, is_some, option_map, option_and_then, unwrap_or, Result, Ok, Err, codes}
-use Rattle.std.specs.List.{slice_get, position, find, list_any, range_with_len}
+use Rattle.std.specs.Prelude.{ℕ, List, [], ◌∷◌, length, map, take, Bool, true, false, not, ◌&&◌, ◌==◌, nat_le, if◌then◌else◌, ℤ, pos, Option, None, is_some, option_map, option_and_then, unwrap_or, Result, Ok, Err, codes}
+use Rattle.std.specs.List.{position, find, list_any, range_with_len}
 use Rattle.serde_json.specs.Data.{Data, null}
 use Rattle.serde_json.specs.Find.{get, as_str}
 use Rattle.text_defs.specs.Reading.{json_reading}
-use Rattle.text_defs.specs.Whole.{whole}
-use Rattle.text_defs.specs.Steps.{◌>>=◌, or_fault, unless, first_fault, list_of, array_at}
+use Rattle.text_defs.specs.Steps.{◌>>=◌, or_fault, unless, first_fault}
+use Rattle.text_defs.specs.Fields.{list_of, array_at, whole_at, has, item_at, below}
+use Rattle.text_defs.specs.Costs.{CostItem, CostFault, costs_in}
 
--- Why a text is no instance. The points' own faults come after these.
+-- Why a text is no instance. The points' own faults come after these, and those of the costs after the points' own.
 pub data Fault : Type 0 where
   not_json : Fault
   no_name : Fault
@@ -21,13 +22,6 @@ pub data Fault : Type 0 where
 abbrev pub most_name_bytes : ℕ
 most_name_bytes = 1000
 
--- the whole number under this key
-abbrev pub whole_at : List ℕ → Data → Option ℤ
-whole_at key d = option_and_then whole (get key d)
-
-abbrev pub has : List ℕ → Data → Bool
-has key d = is_some (get key d)
-
 -- ---- the name
 
 abbrev pub short_name : List ℕ → Result (List ℕ) Fault
@@ -37,9 +31,6 @@ abbrev pub name_in : Data → Result (List ℕ) Fault
 name_in d = or_fault no_name (option_and_then as_str (get (codes "name") d)) >>= short_name
 
 -- ---- the items of the points, by their places
-
-abbrev pub item_at : List Data → ℕ → Data
-item_at items k = unwrap_or (slice_get items k) null
 
 abbrev pub has_both : Data → Bool
 has_both d = has (codes "x") d && has (codes "y") d
@@ -66,10 +57,6 @@ differs false b = b
 -- the least place that has an index where item 0 hasn't, or the reverse
 abbrev pub mixed_fault : List Data → Option Fault
 mixed_fault items = option_map mixed_index (position (λ d. differs (is_indexed items) (has_index d)) items)
-
-abbrev pub below : ℕ → ℤ → Option ℕ
-below n (pos k) = if nat_lt k n then Some k else None
-below n (negsuc k) = None
 
 -- the index of an item among n, from 0 to n - 1
 abbrev pub index_in : ℕ → Data → Option ℕ
@@ -111,12 +98,17 @@ points_in d = do
   items ← or_fault no_points (array_at (codes "points") d)
   unless (points_fault (list_of items)) (points_of (list_of items))
 
--- the name and the points of an instance, before the points' own limits
-unfoldable pub instance_in : Data → Result (List ℕ × List (ℤ × ℤ)) Fault
+-- ---- the instance
+
+-- the name and the points, and what its costs are read as once the points are accepted
+abbrev pub Parts : Type 0
+Parts = List ℕ × List (ℤ × ℤ) × Result (List CostItem) CostFault
+
+unfoldable pub instance_in : Data → Result Parts Fault
 instance_in d = do
   name ← name_in d
   points ← points_in d
-  Ok (name, points)
+  Ok (name, points, costs_in (length points) d)
 
-unfoldable pub instance_from : List ℕ → Result (List ℕ × List (ℤ × ℤ)) Fault
+unfoldable pub instance_from : List ℕ → Result Parts Fault
 instance_from bytes = or_fault not_json (json_reading bytes) >>= instance_in

@@ -4,7 +4,11 @@ pub mod Levels
 pub mod Reading
 pub mod Whole
 pub mod Steps
+pub mod Fields
+pub mod Items
+pub mod Costs
 pub mod Instances
 pub mod Solutions
 pub mod Bundles
 pub mod Texts
+pub mod Lines

@@ -7,13 +7,13 @@ use Rattle.json.specs.Word.{after_minus, after_number}
 use Rattle.text_defs.specs.Pieces.{Piece, quoted, run, other, pieces}
 
 -- nothing is left
-abbrev pub ends : Option (List ℕ) → Bool
-ends None = false
-ends (Some rest) = length rest == 0
+abbrev pub is_at_end : Option (List ℕ) → Bool
+is_at_end None = false
+is_at_end (Some rest) = length rest == 0
 
 -- the whole text is a number (RFC 8259, section 6)
 abbrev pub is_number : List ℕ → Bool
-is_number text = ends (after_number text)
+is_number text = is_at_end (after_number text)
 
 abbrev pub is_exponent_mark : ℕ → Bool
 is_exponent_mark c = (c == 101) || (c == 69)

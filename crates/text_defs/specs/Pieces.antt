@@ -1,11 +1,15 @@
 -- A text before it is read as JSON: its strings, its longest runs of number bytes, and its other bytes.
-use Rattle.std.specs.Prelude.{ℕ, zero, suc, ◌+◌, List, [], ◌∷◌, length, take, drop, Bool, ◌||◌, ◌==◌, if◌then◌else◌}
+use Rattle.std.specs.Prelude.{ℕ, zero, suc, ◌+◌, List, [], ◌∷◌, length, take, drop, Bool, not, ◌&&◌, ◌||◌, ◌==◌, if◌then◌else◌}
 use Rattle.std.specs.List.{prefix_len}
 use Rattle.std.specs.Char.{is_ascii_digit}
 
 -- `0` to `9`, `+`, `-`, `.`, `e` and `E` (this project's own)
 abbrev pub is_number_byte : ℕ → Bool
 is_number_byte c = is_ascii_digit c || (c == 43) || (c == 45) || (c == 46) || (c == 101) || (c == 69)
+
+-- a byte that begins neither a string nor a run of number bytes
+abbrev pub is_other : ℕ → Bool
+is_other c = not (c == 34) && not (is_number_byte c)
 
 -- how many bytes a string takes behind its first quotation mark: through the next one that no backslash takes, or all
 abbrev pub string_len : List ℕ → ℕ

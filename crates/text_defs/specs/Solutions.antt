@@ -1,10 +1,10 @@
 -- The pairs that a value is as a solution over n points, or the first fault (this project's own, after the challenge's files).
-use Rattle.std.specs.Prelude.{ℕ, List, length, min, max, not, ◌==◌, nat_le, if◌then◌else◌, Option, Some, None, is_some, option_map, option_and_then, Result, Err, codes}
+use Rattle.std.specs.Prelude.{ℕ, List, length, not, nat_le, if◌then◌else◌, Option, is_some, option_map, option_and_then, Result, Err, codes}
 use Rattle.std.specs.List.{position, filter_map}
 use Rattle.serde_json.specs.Data.{Data}
 use Rattle.text_defs.specs.Reading.{json_reading}
-use Rattle.text_defs.specs.Steps.{◌>>=◌, or_fault, unless, list_of, array_at}
-use Rattle.text_defs.specs.Instances.{whole_at, below}
+use Rattle.text_defs.specs.Steps.{◌>>=◌, or_fault, unless}
+use Rattle.text_defs.specs.Fields.{list_of, array_at, whole_at, below, pair_of}
 
 pub data Fault : Type 0 where
   not_json : Fault
@@ -18,10 +18,6 @@ most_edges = 20000
 -- the index from 0 to n - 1 under this key
 abbrev pub end_at : ℕ → List ℕ → Data → Option ℕ
 end_at n key d = option_and_then (below n) (whole_at key d)
-
--- the pair of two indices that differ, the smaller first
-abbrev pub pair_of : ℕ → ℕ → Option (ℕ × ℕ)
-pair_of i j = if i == j then None else Some (min i j, max i j)
 
 abbrev pub edge_of : ℕ → Data → Option (ℕ × ℕ)
 edge_of n d = option_and_then (λ i. option_and_then (pair_of i) (end_at n (codes "j") d)) (end_at n (codes "i") d)

@@ -1,6 +1,7 @@
 use Rattle.std.proofs.Common.{rules, is_lt}
 use Rattle.std.proofs.lemmas.List.Sorted.{answers_always}
-use Rattle.cost_defs.proofs.Search.{pair_cmp, ascending_tested}
+use Rattle.cost_defs.proofs.Laws.{pair_cmp}
+use Rattle.cost_defs.proofs.Search.{ascending_tested}
 use Rattle.cost_defs.proofs.costs.are_ascending.Goals as goal
 
 pub returns : goal.returns

@@ -1,7 +1,7 @@
 use Rattle.std.proofs.Common.{map}
 use Rattle.serde_json.specs.View.{view}
 use Rattle.text_defs.specs.Instances.{has_index, is_indexed, differs}
-use Rattle.instance_io.proofs.Places.{NoneBefore}
+use Rattle.json_text.proofs.Laws.{NoneBefore}
 use Rattle.instance_io.proofs.points.first_mixed.Given as goal
 
 abbrev pub invariant-loop-place : goal.invariant-loop-place

@@ -4,7 +4,8 @@ use Rattle.serde_json.specs.View.{view}
 use Rattle.text_defs.specs.Instances.{point_of}
 use Rattle.instance_io.specs.Refusal.{coordinates}
 use Rattle.instance_io.specs.Told.{is_seen}
-use Rattle.instance_io.proofs.Places.{at_place, bad_if_seen, bad_index_found, no_bad_index}
+use Rattle.json_text.proofs.Laws.{view-at}
+use Rattle.instance_io.proofs.Places.{bad_if_seen, bad_index_found, no_bad_index}
 use Rattle.instance_io.proofs.Placed.{step, placed_end}
 use Rattle.instance_io.proofs.points.points_by_index.Goals as goal
 
@@ -15,7 +16,7 @@ returns-in_default-new_index c =
     let inv = c.loop-place.invariant in
     let now = c.deref.result.now in
     let all = ap length c.deref.ensures.value in
-    let at = at_place c.args.items.now c.loop-place.place c.index-items-place.result (omega arith) c.index-items-place.is in
+    let at = view-at c.args.items.now c.loop-place.place c.index-items-place.result (omega arith) c.index-items-place.is in
     let seen = subst (λ (s : List Bool). is_seen s (length now) (view c.index-items-place.result) ≡ true) c.deref.ensures.value c.in_default-new_index.ensures in
     bad_index_found ds c.loop-place.place (omega (arith, count)) inv.stepped.good
     (bad_if_seen c.loop-place.seen.items ds (length now) c.loop-place.place (view c.index-items-place.result) true (omega (arith, all, count, inv.all_seen)) at inv.stepped.seen_is seen)
@@ -35,7 +36,7 @@ loop-place-preserved c =
     let inv = c.loop-place.invariant in
     let now = c.deref.result.now in
     let all = ap length c.deref.ensures.value in
-    let at = at_place c.args.items.now c.loop-place.place c.index-items-place.result (omega arith) c.index-items-place.is in
+    let at = view-at c.args.items.now c.loop-place.place c.index-items-place.result (omega arith) c.index-items-place.is in
     let seen = subst (λ (s : List Bool). is_seen s (length now) (view c.index-items-place.result) ≡ false) c.deref.ensures.value c.in-Some.ensures.0 in
     record {
       all_seen = length-set c.loop-place.seen.items c.in-Some.index true ∙ inv.all_seen;

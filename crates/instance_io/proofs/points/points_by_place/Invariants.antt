@@ -2,7 +2,7 @@ use Rattle.std.proofs.Common.{◌≡◌, map, take, not}
 use Rattle.serde_json.specs.View.{view}
 use Rattle.text_defs.specs.Instances.{is_point, point_of}
 use Rattle.instance_io.specs.Refusal.{coordinates}
-use Rattle.instance_io.proofs.Places.{NoneBefore}
+use Rattle.json_text.proofs.Laws.{NoneBefore}
 use Rattle.instance_io.proofs.points.points_by_place.Given as goal
 
 abbrev pub invariant-loop-place : goal.invariant-loop-place

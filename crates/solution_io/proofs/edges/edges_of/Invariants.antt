@@ -2,8 +2,8 @@ use Rattle.std.proofs.Common.{◌≡◌, map, take}
 use Rattle.std.specs.List.{filter_map}
 use Rattle.serde_json.specs.View.{view}
 use Rattle.text_defs.specs.Solutions.{edge_of}
-use Rattle.instance_io.proofs.Places.{NoneBefore}
-use Rattle.solution_io.specs.Refusal.{ends}
+use Rattle.json_text.proofs.Laws.{NoneBefore}
+use Rattle.instance_io.specs.Refusal.{ends}
 use Rattle.solution_io.proofs.Pairs.{is_no_edge}
 use Rattle.solution_io.proofs.edges.edges_of.Given as goal
 

@@ -16,5 +16,5 @@ returns-in-Err-NotJson-clause-answer c = from_refused _ _ (rw c.in-Err-NotJson.f
 pub returns-in-Err-NotJson-clause-exact : goal.returns-in-Err-NotJson-clause-exact
 returns-in-Err-NotJson-clause-exact c = exact _ (Err NotJson) (from_refused _ _ (rw c.in-Err-NotJson.field-0-is at c.in-Err-NotJson.ensures))
 
-pub returns-in-Err-clause-exact : goal.returns-in-Err-clause-exact
-returns-in-Err-clause-exact c = exact _ (Err NoMemory) tt
+pub returns-in-Err-NoMemory-clause-exact : goal.returns-in-Err-NoMemory-clause-exact
+returns-in-Err-NoMemory-clause-exact c = exact _ (Err NoMemory) tt

@@ -1,6 +1,6 @@
 use Rattle.std.proofs.Common.{◌≡◌, ◌++◌, map, nat_lt, false, codes}
 use Rattle.serde_json.specs.Written.{items_text}
-use Rattle.solution_io.specs.Refusal.{ends}
+use Rattle.instance_io.specs.Refusal.{ends}
 use Rattle.solution_io.proofs.SolutionText.{rest}
 use Rattle.solution_io.proofs.writing.write_solution.Given as goal
 

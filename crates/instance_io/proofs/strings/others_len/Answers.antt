@@ -1,8 +1,0 @@
-use Rattle.std.proofs.Common.{sym, arith}
-use Rattle.std.proofs.lemmas.List.Sums.{prefix_len_is}
-use Rattle.text_defs.proofs.Rewriting.{is_other}
-use Rattle.instance_io.proofs.strings.others_len.Goals as goal
-
-pub returns-clause-value : goal.returns-clause-value
-returns-clause-value c =
-    sym (prefix_len_is is_other c.args.text.now _ 0 (omega arith) (λ k h. c.loop-end.invariant k (omega arith)) (λ h. absurd (omega arith)))

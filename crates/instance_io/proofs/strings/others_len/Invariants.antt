@@ -1,6 +1,0 @@
-use Rattle.std.proofs.Common.{◌≡◌, ℕ, ◌<◌, get_or, true}
-use Rattle.text_defs.proofs.Rewriting.{is_other}
-use Rattle.instance_io.proofs.strings.others_len.Given as goal
-
-abbrev pub invariant-loop-end : goal.invariant-loop-end
-invariant-loop-end l = (k : ℕ) → k < l.end → is_other (get_or l.text k 0) ≡ true

@@ -1,0 +1,4 @@
+pub mod Laws
+pub mod Scans
+pub mod Pieces
+pub mod Values

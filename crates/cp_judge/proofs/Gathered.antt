@@ -90,7 +90,7 @@ more_than K i p e r E l is other so =
 two_ends : (e : Pair) (p r : ℕ) → r ≡ p → ¬ HasEnds e p r
 two_ends e p r same h = let o : e.lo < e.hi = e.ordered in ⊎_elim (λ u. let a = u.0 in let b = u.1 in omega arith) (λ u. let a = u.0 in let b = u.1 in omega arith) h
 
-end_elsewhere : (S : List Point) (K : List Pair) (p r : ℕ) → AreWithin S K → Joins K p r → (r < length S) × (r ≢ p)
+pub end_elsewhere : (S : List Point) (K : List Pair) (p r : ℕ) → AreWithin S K → Joins K p r → (r < length S) × (r ≢ p)
 end_elsewhere S K p r within j = (end_in j.1 p r (length S) j.4 (within j.1 (joins_pair K p r j)), λ same. two_ends j.1 p r same j.4)
 
 -- the ends at p are other points

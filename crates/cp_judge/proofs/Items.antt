@@ -1,5 +1,5 @@
 -- Pairs at positions of a list, and the first violations among them.
-use Rattle.std.proofs.Common.{◌≡◌, ◌↔◌, IsTrue, ◌<◌, ⊎_elim, ℕ, Bool, true, false, List, length, slice_index_or, sym, ◌∙◌, subst, ap, arith, ℤ, pos, ◌-ℤ◌, ◌*ℤ◌}
+use Rattle.std.proofs.Common.{◌≡◌, ◌↔◌, IsTrue, ◌<◌, ◌+◌, ◌⊎◌, inl, inr, below_more, ⊎_elim, ℕ, Bool, true, false, List, length, slice_index_or, sym, ◌∙◌, subst, ap, arith, ℤ, pos, ◌-ℤ◌, ◌*ℤ◌}
 use Rattle.std.proofs.lemmas.Bool.{false≢true, cases_order}
 use Rattle.std.proofs.lemmas.List.{get_or_default}
 use Rattle.std.proofs.lemmas.Int.{ints}
@@ -7,12 +7,13 @@ use Rattle.std.proofs.Math.IntN.{zero-*ℤ, *ℤ_comm}
 use Rattle.plane.specs.declared.coordinates.Point.{Point}
 use Rattle.plane.specs.declared.segment.Pair.{Pair}
 use Rattle.plane.specs.First.{IsLeast}
-use Rattle.plane.specs.Geometry.{point, IsBetween, IsClear, AreCrossing}
+use Rattle.plane.specs.Geometry.{area, point, IsBetween, IsClear, AreCrossing}
 use Rattle.partition_defs.specs.Partition.{ArePlane}
 use Rattle.partition_defs.specs.Triangulation.{AreDistinct}
+use Rattle.plane.proofs.laws.Area.{area_first, area_second}
+use Rattle.cp_judge.specs.Spans.{HaveCommonEnd}
 use Rattle.cp_judge.specs.Violation.{StandsAt, IsRepeatedAt, IsNotClear, AreCrossingAt, IsCrossing}
-use Rattle.plane.proofs.laws.Area.{area_first}
-use Rattle.plane.proofs.laws.Opposite.{not_opposite_zero}
+use Rattle.plane.proofs.laws.Opposite.{not_opposite_zero, zero_not_opposite}
 
 pub refused : (b : Bool) (P : Type 0) → b ≡ false → (P → b ≡ true) → ¬ P
 refused b P e f p = false≢true (sym e ∙ f p)
@@ -34,6 +35,13 @@ pub not_clear_found : (S : List Point) (K : List Pair) (k : ℕ) (e : Pair) (p :
 not_clear_found S K k e p st least before =
     (k, st, record { within = st.0; holds = (e, p, st, least.within, least.holds); before = λ j m u. before j u.0 m u.2.1 u.1 u.3 u.4 }, least)
 
+-- one more clear pair
+pub clear_more : (S : List Point) (K : List Pair) (i : ℕ) (e : Pair) → StandsAt K i e → IsClear S e.lo e.hi
+    → ((k : ℕ) (f : Pair) → k < i → slice_index_or K k f ≡ f → IsClear S f.lo f.hi) → (k : ℕ) (f : Pair) → k < i + 1 → slice_index_or K k f ≡ f → IsClear S f.lo f.hi
+clear_more S K i e st clear before k f l is =
+    below_more (λ (k : ℕ). (f : Pair) → slice_index_or K k f ≡ f → IsClear S f.lo f.hi) i (λ k m f is. before k f m is)
+    (λ f is. let P : Pair → Type 0 = λ x. IsClear S x.lo x.hi in subst P (stands_same K i e f st (st.0, is)) clear) k l f is
+
 pub crossing_here : (S : List Point) (K : List Pair) (a b : ℕ) (e f : Pair) → StandsAt K a e → StandsAt K b f
     → AreCrossingAt S K a b → AreCrossing S e.lo e.hi f.lo f.hi
 crossing_here S K a b e f se sf h =
@@ -46,16 +54,15 @@ pub crossing_tested : (S : List Point) (K : List Pair) (a b : ℕ) (e f : Pair) 
     → IsTrue r ↔ AreCrossing S e.lo e.hi f.lo f.hi → IsTrue r ↔ AreCrossingAt S K a b
 crossing_tested S K a b e f r se sf h = (λ t. (e, f, se, sf, h.0 t), λ c. h.1 (crossing_here S K a b e f se sf c))
 
-none_times : (a b : ℤ) → a *ℤ (b -ℤ b) ≡ pos 0
-none_times a b =
-    let e : b -ℤ b ≡ pos 0 = omega (arith, ints) in
-    ap (λ x. a *ℤ x) e ∙ *ℤ_comm a (pos 0) ∙ zero-*ℤ a
-
-none_less : (a b : ℤ) → a ≡ pos 0 → b ≡ pos 0 → a -ℤ b ≡ pos 0
-none_less a b h k = omega (arith, ints)
-
 pub crosses_itself : (S : List Point) (a b : ℕ) → ¬ AreCrossing S a b a b
 crosses_itself S a b h = not_opposite_zero _ _ (area_first (point S a) (point S b)) h.0
+
+-- pairs with a common end don't cross
+pub common_end : (S : List Point) (e f : Pair) → HaveCommonEnd e f → ¬ AreCrossing S e.lo e.hi f.lo f.hi
+common_end S e f (inl (inl h)) c = not_opposite_zero _ _ (ap (λ i. area (point S e.lo) (point S e.hi) (point S i)) (sym h) ∙ area_first (point S e.lo) (point S e.hi)) c.0
+common_end S e f (inl (inr h)) c = zero_not_opposite _ _ (ap (λ i. area (point S e.lo) (point S e.hi) (point S i)) (sym h) ∙ area_first (point S e.lo) (point S e.hi)) c.0
+common_end S e f (inr (inl h)) c = not_opposite_zero _ _ (ap (λ i. area (point S e.lo) (point S e.hi) (point S i)) (sym h) ∙ area_second (point S e.lo) (point S e.hi)) c.0
+common_end S e f (inr (inr h)) c = zero_not_opposite _ _ (ap (λ i. area (point S e.lo) (point S e.hi) (point S i)) (sym h) ∙ area_second (point S e.lo) (point S e.hi)) c.0
 
 same_position : (S : List Point) (K : List Pair) (k m : ℕ) (e f : Pair) → k ≡ m → StandsAt K k e → StandsAt K m f
     → ¬ AreCrossing S e.lo e.hi f.lo f.hi

@@ -1,5 +1,5 @@
 -- Pairs whose ranges of x have no number in common don't cross.
-use Rattle.std.proofs.Common.{get_or-set_other, get_or-set_same, set, ◌≡◌, ◌<◌, ◌≤◌, ◌+◌, ⊎_elim, ℕ, List, length, false, ◌≢◌, below_more, sym, ◌∙◌, subst, ap, arith, inl, ℤ, ◌<ℤ◌, ◌≤ℤ◌, is_lt, int_cmp}
+use Rattle.std.proofs.Common.{get_or-set_other, get_or-set_same, set, ◌≡◌, ◌<◌, ◌≤◌, ◌+◌, ⊎_elim, ℕ, List, length, false, ◌≢◌, below_more, sym, ◌∙◌, subst, ap, arith, ◌⊎◌, inl, inr, ℤ, ◌<ℤ◌, ◌≤ℤ◌, is_lt, int_cmp}
 use Rattle.std.specs.List.Sorted.{IsPermutation, IsSortedBy}
 use Rattle.std.specs.Int.{int_min, int_max}
 use Rattle.std.proofs.lemmas.Bool.{cases_order, cases_lt}
@@ -11,7 +11,7 @@ use Rattle.std.proofs.lemmas.List.Sorted.{All-permutation, Contains-permutation,
 use Rattle.plane.specs.declared.coordinates.Point.{Point}
 use Rattle.plane.specs.declared.segment.Pair.{Pair}
 use Rattle.plane.specs.Geometry.{point}
-use Rattle.plane.proofs.laws.Quadruple.{AreBelow, not_below_across}
+use Rattle.plane.proofs.laws.Quadruple.{AreBelow, not_below_across, not_below_upward}
 use Rattle.cp_judge.specs.declared.crossing.Span.{Span}
 use Rattle.cp_judge.specs.Violation.{StandsAt, AreCrossingAt}
 use Rattle.cp_judge.specs.Spans.{span, HasRange, IsSpan, AreSpans, AreByLeft, IsUpToCrossing, CrossNoneBefore}
@@ -28,6 +28,19 @@ span_apart S K z w hz hw before h =
     let f = hw.0 in
     not_below_across (point S e.lo) (point S e.hi) (point S f.lo) (point S f.hi) (crossing_here S K z.place w.place e f hz.1 hw.1 h)
     (inl (below (point S e.lo).x (point S e.hi).x (point S f.lo).x (point S f.hi).x z.right w.left hz.2.1 hw.2.0 before))
+
+-- and likewise upward
+pub span_above : (S : List Point) (K : List Pair) (z w : Span) → IsSpan S K z → IsSpan S K w → (z.high <ℤ w.low) ⊎ (w.high <ℤ z.low) → ¬ AreCrossingAt S K z.place w.place
+span_above S K z w hz hw (inl before) h =
+    let e = hz.0 in
+    let f = hw.0 in
+    not_below_upward (point S e.lo) (point S e.hi) (point S f.lo) (point S f.hi) (crossing_here S K z.place w.place e f hz.1 hw.1 h)
+    (inl (below (point S e.lo).y (point S e.hi).y (point S f.lo).y (point S f.hi).y z.high w.low hz.2.3 hw.2.2 before))
+span_above S K z w hz hw (inr before) h =
+    let e = hz.0 in
+    let f = hw.0 in
+    not_below_upward (point S e.lo) (point S e.hi) (point S f.lo) (point S f.hi) (crossing_here S K z.place w.place e f hz.1 hw.1 h)
+    (inr (below (point S f.lo).y (point S f.hi).y (point S e.lo).y (point S e.hi).y w.high z.low hw.2.3 hz.2.2 before))
 
 crossing_back : (S : List Point) (K : List Pair) (a b : ℕ) → AreCrossingAt S K a b → AreCrossingAt S K b a
 crossing_back S K a b h = (h.1, h.0, h.3, h.2, (h.4.1, h.4.0))

@@ -3,3 +3,5 @@ pub mod Violation
 pub mod Ascending
 pub mod Spans
 pub mod Judgement
+pub mod Bounds
+pub mod Turning

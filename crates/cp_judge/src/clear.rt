@@ -1,17 +1,40 @@
-// Pairs that aren't clear.
-ghost use Rattle.std.specs.Prelude.{MatchOption};
+// Pairs that aren't clear. Most are seen to be clear by blocks of points; of the others all points are asked.
+ghost use Rattle.std.specs.Prelude.{◌<◌, length, MatchOption};
+ghost use Rattle.plane.specs.First.{IsLeastOrNone};
+ghost use Rattle.plane.specs.Geometry.{IsBetween};
 ghost use Rattle.partition_defs.specs.Partition.{AreWithin, AreClear};
+ghost use Rattle.cp_judge.specs.Bounds.{AreBlocks};
 ghost use Rattle.cp_judge.specs.Violation.{IsNotClear};
 
-use plane::{Pair, Points};
+use crate::blocks::{BLOCK_COUNT, may_have_between, set_blocks};
+use crate::bounds::Bounds;
+use plane::{MOST_POINTS, Pair, Point, Points};
+
+// The least point strictly between the ends of a pair, or none.
+fn first_between(points: &Points, places: &[Point], bounds: &[Bounds], e: Pair) -> Option<u32>
+    requires blocks { AreBlocks points.now places.now bounds.now }
+    requires within { e.hi < length points.now }
+    ensures { IsLeastOrNone (λ k. IsBetween points.now k e.lo e.hi) (length points.now) result }
+{
+    if may_have_between(places, bounds, points.at(e.lo()), points.at(e.hi())) {
+        points.first_between(e)
+    } else {
+        None
+    }
+}
 
 /// The first pair that isn't clear and the least point strictly between its ends, or none.
 pub fn first_not_clear(points: &Points, list: &[Pair]) -> Option<(Pair, u32)>
     requires { AreWithin points.now list.now }
     ensures { MatchOption result (AreClear points.now list.now) (λ v. IsNotClear points.now list.now v.0 v.1) }
 {
+    let origin = Point { x: 0, y: 0 };
+    let mut room = [origin; MOST_POINTS];
+    let mut bounds = [Bounds::around(origin); BLOCK_COUNT];
+    let places = &mut room[..points.len() as usize];
+    set_blocks(points, places, &mut bounds);
     for e in list {
-        if let Some(p) = points.first_between(*e) {
+        if let Some(p) = first_between(points, places, &bounds, *e) {
             return Some((*e, p));
         }
     }

@@ -1,17 +1,22 @@
-// Pairs that cross. Only pairs whose ranges of x meet are compared, where the list isn't too long to put them in order.
-ghost use Rattle.std.specs.Prelude.{◌≡◌, ◌<◌, ◌≤◌, ◌↔◌, ℕ, length, IsTrue, MatchOption};
+// Pairs that cross. Only pairs whose ranges of x and of y meet are compared, where the list isn't too long to put them in order.
+ghost use Rattle.std.specs.Prelude.{◌≡◌, ◌<◌, ◌≤◌, ◌↔◌, ◌⊎◌, ◌<ℤ◌, ℕ, length, IsTrue, IsFalse, MatchOption};
 ghost use Rattle.partition_defs.specs.Partition.{AreWithin, ArePlane};
 ghost use Rattle.cp_judge.specs.Violation.{AreCrossingAt, IsCrossing, IsLeastAfterOrNone};
-ghost use Rattle.cp_judge.specs.Spans.{span, HasRange, AreSpans, AreByLeft, IsUpToCrossing, CrossNoneBefore};
+ghost use Rattle.cp_judge.specs.Spans.{span, HasRange, IsSpan, AreSpans, HaveCommonEnd, AreByLeft, IsUpToCrossing, CrossNoneBefore};
 
 use crate::MOST_ORDERED;
 use plane::{Pair, Points};
 
-// The least and the greatest x of a pair's ends, and the position at which the pair stands.
+// How many positions are tried before the list is put in order.
+const SOON: usize = 16;
+
+// The least and the greatest x of a pair's ends, alike their y, and the position at which the pair stands.
 #[derive(Clone, Copy)]
 struct Span {
     left: i64,
     right: i64,
+    low: i64,
+    high: i64,
     place: usize,
 }
 
@@ -49,7 +54,15 @@ fn cross_at(points: &Points, list: &[Pair], a: usize, b: usize) -> bool
     requires b_in { b < length list.now }
     ensures { IsTrue result ↔ AreCrossingAt points.now list.now a b }
 {
-    points.cross(list[a], list[b])
+    let (e, f) = (list[a], list[b]);
+    !have_common_end(e, f) && points.cross(e, f)
+}
+
+// Whether two pairs have an end in common. Such pairs don't cross.
+fn have_common_end(e: Pair, f: Pair) -> bool
+    ensures { IsTrue result → HaveCommonEnd e f }
+{
+    e.lo() == f.lo() || e.lo() == f.hi() || e.hi() == f.lo() || e.hi() == f.hi()
 }
 
 // A position before which no pair crosses a later one: the least of a crossing, or 0 in a list that is too long to order.
@@ -57,12 +70,14 @@ fn first_to_try(points: &Points, list: &[Pair]) -> usize
     requires { AreWithin points.now list.now }
     ensures { CrossNoneBefore points.now list.now result }
 {
-    if list.len() > MOST_ORDERED {
+    if list.len() > MOST_ORDERED || crosses_soon(points, list) {
         return 0;
     }
     let mut room = [Span {
         left: 0,
         right: 0,
+        low: 0,
+        high: 0,
         place: 0,
     }; MOST_ORDERED];
     let spans = &mut room[..list.len()];
@@ -71,15 +86,29 @@ fn first_to_try(points: &Points, list: &[Pair]) -> usize
     least_crossing(points, list, spans)
 }
 
+// Whether a pair at one of the first positions crosses a later one, as in a list with many crossings.
+fn crosses_soon(points: &Points, list: &[Pair]) -> bool
+    requires { AreWithin points.now list.now }
+{
+    for a in 0..list.len().min(SOON) {
+        if first_crossed(points, list, a).is_some() {
+            return true;
+        }
+    }
+    false
+}
+
 fn span_of(points: &Points, e: Pair, place: usize) -> Span
     requires { e.hi < length points.now }
     ensures range { HasRange points.now e result }
     ensures place { result.place ≡ place }
 {
-    let (x, y) = (points.at(e.lo()).x, points.at(e.hi()).x);
+    let (p, q) = (points.at(e.lo()), points.at(e.hi()));
     Span {
-        left: x.min(y),
-        right: x.max(y),
+        left: p.x.min(q.x),
+        right: p.x.max(q.x),
+        low: p.y.min(q.y),
+        high: p.y.max(q.y),
         place,
     }
 }
@@ -137,17 +166,30 @@ fn least_crossing_at(
     least
 }
 
+// Whether the ranges of y of two spans have a number in common.
+fn do_meet_upward(z: Span, w: Span) -> bool
+    ensures { IsFalse result → (z.high <ℤ w.low) ⊎ (w.high <ℤ z.low) }
+{
+    z.low <= w.high && w.low <= z.high
+}
+
 // The least of a position and, where the pairs of two spans cross, the positions of these. A list in which many pairs cross
 // soon has a low position, and few of its pairs are compared then.
 fn least_if_crossing(points: &Points, list: &[Pair], z: Span, w: Span, least: usize) -> usize
     requires within { AreWithin points.now list.now }
-    requires z_in { z.place < length list.now }
-    requires w_in { w.place < length list.now }
+    requires z_of { IsSpan points.now list.now z }
+    requires w_of { IsSpan points.now list.now w }
     ensures below { result ≤ least }
     ensures met { IsUpToCrossing points.now list.now result z w }
 {
     let earlier = z.place.min(w.place);
-    if earlier < least && cross_at(points, list, z.place, w.place) {
+    if least <= earlier {
+        return least;
+    }
+    if !do_meet_upward(z, w) {
+        return least;
+    }
+    if cross_at(points, list, z.place, w.place) {
         earlier
     } else {
         least

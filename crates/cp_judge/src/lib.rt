@@ -9,12 +9,15 @@ ghost use Rattle.cp_judge.specs.declared.answer.Judgement.{Judgement};
 ghost use Rattle.cp_judge.specs.Judgement.{IsJudgement};
 
 mod answer;
+mod blocks;
 mod border;
+mod bounds;
 mod clear;
 mod crossing;
 mod doubled;
 mod ends;
 mod needs;
+mod turning;
 
 pub use answer::Judgement;
 use border::first_missing_border;

@@ -1,15 +1,22 @@
 // Needs that aren't met. Where the need of a point for each of its ends is met, all its needs are, so that mostly the ends
 // alone are tried. Where they don't show it, one walk over the list marks the points for which the needs are met.
-ghost use Rattle.std.specs.Prelude.{◌≡◌, ◌≢◌, ◌<◌, ◌≤◌, ◌⊎◌, ◌↔◌, length, IsTrue, MatchOption, false};
+ghost use Rattle.std.specs.Prelude.{◌≡◌, ◌≢◌, ◌<◌, ◌≤◌, ◌⊎◌, ◌↔◌, ◌*◌, ◌^◌, length, IsTrue, MatchOption, false};
 ghost use Rattle.plane.specs.First.{IsLeast, IsLeastOrNone};
 ghost use Rattle.plane.specs.Geometry.{IsInner};
-ghost use Rattle.partition_defs.specs.Partition.{AreWithin, MeetsNeedsAt, MeetsNeeds};
+ghost use Rattle.std.specs.List.{All};
+ghost use Rattle.partition_defs.specs.Partition.{Joins, AreWithin, MeetsNeedsAt, MeetsNeeds};
 ghost use Rattle.cp_judge.specs.Ends.{AreOthers, IsMetAmong, MeetsNeedsAmong, IsUnmetAmong};
+ghost use Rattle.cp_judge.specs.Turning.{AreEndsOf};
 ghost use Rattle.cp_judge.specs.Violation.{IsSeen, IsMetBy, IsMetBefore, mark, AddsMarks, IsUnmetAt, IsUnmet};
 
+use crate::MOST_ORDERED;
 use crate::ends::{gather_ends, other_end};
+use crate::turning::{End, is_met_round, next_run, set_ends};
 use arrayvec::ArrayVec;
 use plane::{MOST_POINTS, Pair, Points};
+
+// As many ends as the most ordered pairs have.
+const MOST_ENDS: usize = 40_000;
 
 // Whether some of these ends is in the need of p for q.
 fn is_met_among(points: &Points, ends: &[u32], p: u32, q: u32) -> bool
@@ -142,11 +149,56 @@ pub fn first_unmet(points: &Points, list: &[Pair]) -> Option<(u32, u32)>
     requires { AreWithin points.now list.now }
     ensures { MatchOption result (MeetsNeeds points.now list.now) (λ v. IsUnmet points.now list.now v.0 v.1) }
 {
-    let mut ends = ArrayVec::new();
+    if list.len() > MOST_ORDERED {
+        return first_unmet_from(points, list, &[]);
+    }
+    first_unmet_within(points, list, &mut [End { at: 0, to: 0 }; MOST_ENDS])
+}
+
+// The same, with room for the ends.
+fn first_unmet_within(points: &Points, list: &[Pair], room: &mut [End]) -> Option<(u32, u32)>
+    requires within { AreWithin points.now list.now }
+    requires few { length list.now < 2 ^ 32 }
+    requires room { 2 * length list.now ≤ length room.old }
+    ensures { MatchOption result (MeetsNeeds points.now list.now) (λ v. IsUnmet points.now list.now v.0 v.1) }
+{
+    let ends = &mut room[..2 * list.len()];
+    set_ends(points, list, ends);
+    first_unmet_from(points, list, ends)
+}
+
+// The same, with ends of the segments that are mostly in turning order round each point in its turn.
+fn first_unmet_from(points: &Points, list: &[Pair], ends: &[End]) -> Option<(u32, u32)>
+    requires within { AreWithin points.now list.now }
+    requires ends { AreEndsOf list.now ends.now }
+    ensures { MatchOption result (MeetsNeeds points.now list.now) (λ v. IsUnmet points.now list.now v.0 v.1) }
+{
+    let mut run = ArrayVec::new();
+    let mut from = 0;
     for p in 0..points.len() {
-        if let Some(q) = first_unmet_of(points, list, p, &mut ends) {
+        from = next_run(ends, from, p, &mut run);
+        if let Some(q) = first_unmet_beside(points, list, p, &mut run) {
             return Some((p, q));
         }
     }
     None
+}
+
+// The least point for which the need of an inner point p isn't met, or none. Mostly the run, which has ends at p, shows that
+// all are met.
+fn first_unmet_beside(
+    points: &Points,
+    list: &[Pair],
+    p: u32,
+    run: &mut ArrayVec<u32, MOST_POINTS>,
+) -> Option<u32>
+    requires within { AreWithin points.now list.now }
+    requires p_in { p < length points.now }
+    requires run { All (Joins list.now p) run.old.items }
+    ensures { MatchOption result (IsInner points.now p → MeetsNeedsAt points.now list.now p) (λ q. IsInner points.now p × IsLeast (IsUnmetAt points.now list.now p) (length points.now) q) }
+{
+    if is_met_round(points, run.as_slice(), p) {
+        return None;
+    }
+    first_unmet_of(points, list, p, run)
 }

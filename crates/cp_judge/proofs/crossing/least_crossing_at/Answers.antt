@@ -7,11 +7,11 @@ returns-then-span-next-clause-met c =
     rest_apart c.args.points.now c.args.list.now c.args.spans.now c.loop-j.least c.args.k c.loop-j.j c.requires.spans c.requires.ordered c.requires.k_in
     (search rules) c.loop-j.invariant.met
 
-pub least_if_crossing-least-requires-clause-z_in : goal.least_if_crossing-least-requires-clause-z_in
-least_if_crossing-least-requires-clause-z_in c = (c.requires.spans.each c.args.k _ c.requires.k_in).1.0
+pub least_if_crossing-least-requires-clause-z_of : goal.least_if_crossing-least-requires-clause-z_of
+least_if_crossing-least-requires-clause-z_of c = c.requires.spans.each c.args.k _ c.requires.k_in
 
-pub least_if_crossing-least-requires-clause-w_in : goal.least_if_crossing-least-requires-clause-w_in
-least_if_crossing-least-requires-clause-w_in c = (c.requires.spans.each c.loop-j.j _ c.loop-j-test.true).1.0
+pub least_if_crossing-least-requires-clause-w_of : goal.least_if_crossing-least-requires-clause-w_of
+least_if_crossing-least-requires-clause-w_of c = c.requires.spans.each c.loop-j.j _ c.loop-j-test.true
 
 pub loop-j-preserved : goal.loop-j-preserved
 loop-j-preserved c = record {

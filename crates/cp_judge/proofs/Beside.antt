@@ -3,10 +3,10 @@ use Rattle.std.proofs.Common.{◌≡◌, ℤ, pos, ◌⊎◌, inl, inr, ◌-ℤ�
 use Rattle.std.proofs.lemmas.Int.{ints}
 use Rattle.plane.specs.declared.coordinates.Point.{Point}
 use Rattle.plane.specs.Geometry.{area, LiesBetween}
-use Rattle.plane.proofs.laws.Along.{IsInRange, range_across, range_upward}
+use Rattle.plane.proofs.laws.Along.{range_across, range_upward}
 use Rattle.number_laws.proofs.Products.{neg_mul, mul_differences}
 use Rattle.number_laws.proofs.Signs.{negative_or, zero_left, mul_weak}
-use Rattle.plane.proofs.laws.Area.{area_swap, area_cycle, area_back}
+use Rattle.plane.proofs.laws.Area.{area_swap, area_cycle}
 use Rattle.cp_judge.specs.declared.bounds.Bounds.{Bounds}
 use Rattle.cp_judge.specs.Bounds.{HasPoint, IsWithin, corner, AllLeft}
 

@@ -1,10 +1,10 @@
 -- Boxes that grow by a point, and blocks of points with boxes.
-use Rattle.std.proofs.Common.{◌≡◌, ◌≢◌, ℕ, ◌+◌, ◌*◌, ◌<◌, ◌≤◌, List, length, slice_index_or, set, replicate, get_or-set_other, get_or-set_same, below_more, subst, sym, ◌∙◌, ⊎_elim, arith, ℤ, ◌≤ℤ◌}
+use Rattle.std.proofs.Common.{◌≡◌, ◌≢◌, ℕ, ◌+◌, ◌*◌, ◌<◌, ◌≤◌, List, length, slice_index_or, set, replicate, get_or-set_other, get_or-set_same, below_more, subst, sym, ◌∙◌, ⊎_elim, arith, ℤ}
 use Rattle.std.specs.Prelude.{unsigned_abs}
-use Rattle.std.specs.List.{All, Contains}
+use Rattle.std.specs.List.{Contains}
 use Rattle.std.specs.List.Sorted.{IsPermutation}
 use Rattle.std.specs.Int.{int_min, int_max}
-use Rattle.std.proofs.lemmas.Bool.{cases_order, cases_lt}
+use Rattle.std.proofs.lemmas.Bool.{cases_order}
 use Rattle.std.proofs.lemmas.Int.{ints, clamps}
 use Rattle.std.proofs.lemmas.List.{get_or_default, get_or-replicate, length-set}
 use Rattle.std.proofs.lemmas.List.Elements.{All-from_get_or, Contains-get_or}

@@ -1,12 +1,11 @@
 -- Ends of segments in any order, and what some ends at a point show of its needs.
-use Rattle.std.proofs.Common.{◌≡◌, ◌≢◌, ℕ, ◌+◌, ◌*◌, ◌<◌, ◌≤◌, List, length, slice_index_or, set, get_or-set_other, get_or-set_same, subst, sym, ◌∙◌, inl, inr, arith, refl}
-use Rattle.std.specs.List.{All, Contains}
-use Rattle.std.specs.List.Sorted.{IsPermutation}
+use Rattle.std.proofs.Common.{◌≡◌, ℕ, ◌+◌, ◌*◌, ◌<◌, List, length, slice_index_or, set, subst, sym, inl, inr, arith}
+use Rattle.std.specs.List.{All}
 use Rattle.std.proofs.lemmas.List.{length-set}
-use Rattle.std.proofs.lemmas.List.Elements.{All-contains, All-from_get_or, Contains-get_or}
+use Rattle.std.proofs.lemmas.List.Elements.{All-contains}
 use Rattle.plane.specs.declared.coordinates.Point.{Point}
 use Rattle.plane.specs.declared.segment.Pair.{Pair}
-use Rattle.partition_defs.specs.Partition.{HasEnds, Joins, AreWithin, MeetsNeedsAt}
+use Rattle.partition_defs.specs.Partition.{Joins, AreWithin, MeetsNeedsAt}
 use Rattle.cp_judge.specs.declared.turning.End.{End}
 use Rattle.cp_judge.specs.Ends.{AreOthers, MeetsNeedsAmong}
 use Rattle.cp_judge.specs.Turning.{AreEndsOf, IsTarget}

@@ -1,4 +1,4 @@
-use Rattle.std.proofs.Common.{◌+◌, ◌<◌, ◌≤◌, List, length, subst, sym, arith}
+use Rattle.std.proofs.Common.{◌+◌, List, subst, sym, arith}
 use Rattle.cp_judge.specs.declared.bounds.Bounds.{Bounds}
 use Rattle.cp_judge.specs.Bounds.{AreBoundedBelow}
 use Rattle.cp_judge.proofs.Boxing.{bounded_more, bounded_past}

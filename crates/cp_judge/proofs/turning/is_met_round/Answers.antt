@@ -1,4 +1,4 @@
-use Rattle.std.proofs.Common.{◌≤◌, ◌<◌, length, arith, rules, ℕ, get_or, below_more}
+use Rattle.std.proofs.Common.{◌<◌, length, arith, rules, ℕ, get_or, below_more}
 use Rattle.std.proofs.lemmas.List.Elements.{All-from_get_or, Contains-get_or}
 use Rattle.cp_judge.specs.Ends.{IsMetAmong}
 use Rattle.cp_judge.proofs.Around.{met_around}

@@ -5,3 +5,4 @@ pub mod Spans
 pub mod Judgement
 pub mod Bounds
 pub mod Turning
+pub mod Chains

@@ -1,10 +1,12 @@
 // Border pairs that are missing. Each border pair is the step from one of its ends to the next point on the border,
 // counterclockwise, so one walk over the points meets them all.
-ghost use Rattle.std.specs.Prelude.{◌≡◌, ◌<◌, ◌↔◌, ◌⊎◌, length, IsTrue, MatchOption};
+ghost use Rattle.std.specs.Prelude.{◌≡◌, ◌<◌, ◌≤◌, ◌↔◌, ◌⊎◌, length, IsTrue, MatchOption};
 ghost use Rattle.plane.specs.First.{ComesBefore};
 ghost use Rattle.partition_defs.specs.Partition.{HasBorder};
+ghost use Rattle.cp_judge.specs.Chains.{AreOnBorder};
 ghost use Rattle.cp_judge.specs.Violation.{IsMissingBorder, IsMissingStep, IsLesser};
 
+use crate::outline::has_border;
 use partition_defs::joins;
 use plane::{Pair, Points};
 
@@ -53,8 +55,22 @@ fn missing_step(points: &Points, list: &[Pair], v: u32) -> Option<Pair>
     }
 }
 
-/// The least border pair that isn't in the list, or none.
-pub fn first_missing_border(points: &Points, list: &[Pair]) -> Option<Pair>
+/// The least border pair that isn't in the list, or none. It marks points of the border.
+pub fn first_missing_border(points: &Points, list: &[Pair], marks: &mut [bool]) -> Option<Pair>
+    requires room { length points.now ≤ length marks.old }
+    requires marks { AreOnBorder points.now marks.old }
+    ensures missing { MatchOption result (HasBorder points.now list.now) (IsMissingBorder points.now list.now) }
+    ensures marks { AreOnBorder points.now marks.new }
+{
+    if has_border(points, list, marks) {
+        None
+    } else {
+        least_missing_border(points, list)
+    }
+}
+
+// The least border pair that isn't in the list, or none, by the step from each point.
+fn least_missing_border(points: &Points, list: &[Pair]) -> Option<Pair>
     ensures { MatchOption result (HasBorder points.now list.now) (IsMissingBorder points.now list.now) }
 {
     let mut least = None;

@@ -17,6 +17,7 @@ mod crossing;
 mod doubled;
 mod ends;
 mod needs;
+mod outline;
 mod turning;
 
 pub use answer::Judgement;
@@ -25,7 +26,7 @@ use clear::first_not_clear;
 use crossing::first_crossing;
 use doubled::first_doubled;
 use needs::first_unmet;
-use plane::{Pair, Points};
+use plane::{MOST_POINTS, Pair, Points};
 
 // The most pairs that are put in order on the stack; a longer list is compared pair by pair.
 const MOST_ORDERED: usize = 20_000;
@@ -45,10 +46,12 @@ fn first_violation(points: &Points, list: &[Pair]) -> Judgement
     if let Some((e, f)) = first_crossing(points, list) {
         return Judgement::Crossing(e, f);
     }
-    if let Some(e) = first_missing_border(points, list) {
+    let _count = points.len();
+    let mut marks = [false; MOST_POINTS];
+    if let Some(e) = first_missing_border(points, list, &mut marks) {
         return Judgement::MissingBorder(e);
     }
-    if let Some((p, q)) = first_unmet(points, list) {
+    if let Some((p, q)) = first_unmet(points, list, &marks) {
         return Judgement::Unmet(p, q);
     }
     Judgement::Convex(list.len() as u32)

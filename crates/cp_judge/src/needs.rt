@@ -5,6 +5,7 @@ ghost use Rattle.plane.specs.First.{IsLeast, IsLeastOrNone};
 ghost use Rattle.plane.specs.Geometry.{IsInner};
 ghost use Rattle.std.specs.List.{All};
 ghost use Rattle.partition_defs.specs.Partition.{Joins, AreWithin, MeetsNeedsAt, MeetsNeeds};
+ghost use Rattle.cp_judge.specs.Chains.{AreOnBorder};
 ghost use Rattle.cp_judge.specs.Ends.{AreOthers, IsMetAmong, MeetsNeedsAmong, IsUnmetAmong};
 ghost use Rattle.cp_judge.specs.Turning.{AreEndsOf};
 ghost use Rattle.cp_judge.specs.Violation.{IsSeen, IsMetBy, IsMetBefore, mark, AddsMarks, IsUnmetAt, IsUnmet};
@@ -145,31 +146,47 @@ fn first_unmet_of(
 }
 
 /// The least inner point with a need that isn't met, and the least point for which it isn't, or none.
-pub fn first_unmet(points: &Points, list: &[Pair]) -> Option<(u32, u32)>
-    requires { AreWithin points.now list.now }
+pub fn first_unmet(points: &Points, list: &[Pair], marks: &[bool]) -> Option<(u32, u32)>
+    requires within { AreWithin points.now list.now }
+    requires room { length points.now ≤ length marks.now }
+    requires marks { AreOnBorder points.now marks.now }
     ensures { MatchOption result (MeetsNeeds points.now list.now) (λ v. IsUnmet points.now list.now v.0 v.1) }
 {
     if list.len() > MOST_ORDERED {
-        return first_unmet_from(points, list, &[]);
+        return first_unmet_from(points, list, marks, &[]);
     }
-    first_unmet_within(points, list, &mut [End { at: 0, to: 0 }; MOST_ENDS])
+    first_unmet_within(points, list, marks, &mut [End { at: 0, to: 0 }; MOST_ENDS])
 }
 
 // The same, with room for the ends.
-fn first_unmet_within(points: &Points, list: &[Pair], room: &mut [End]) -> Option<(u32, u32)>
+fn first_unmet_within(
+    points: &Points,
+    list: &[Pair],
+    marks: &[bool],
+    room: &mut [End],
+) -> Option<(u32, u32)>
     requires within { AreWithin points.now list.now }
     requires few { length list.now < 2 ^ 32 }
+    requires marked { length points.now ≤ length marks.now }
+    requires marks { AreOnBorder points.now marks.now }
     requires room { 2 * length list.now ≤ length room.old }
     ensures { MatchOption result (MeetsNeeds points.now list.now) (λ v. IsUnmet points.now list.now v.0 v.1) }
 {
     let ends = &mut room[..2 * list.len()];
     set_ends(points, list, ends);
-    first_unmet_from(points, list, ends)
+    first_unmet_from(points, list, marks, ends)
 }
 
 // The same, with ends of the segments that are mostly in turning order round each point in its turn.
-fn first_unmet_from(points: &Points, list: &[Pair], ends: &[End]) -> Option<(u32, u32)>
+fn first_unmet_from(
+    points: &Points,
+    list: &[Pair],
+    marks: &[bool],
+    ends: &[End],
+) -> Option<(u32, u32)>
     requires within { AreWithin points.now list.now }
+    requires marked { length points.now ≤ length marks.now }
+    requires marks { AreOnBorder points.now marks.now }
     requires ends { AreEndsOf list.now ends.now }
     ensures { MatchOption result (MeetsNeeds points.now list.now) (λ v. IsUnmet points.now list.now v.0 v.1) }
 {
@@ -177,26 +194,32 @@ fn first_unmet_from(points: &Points, list: &[Pair], ends: &[End]) -> Option<(u32
     let mut from = 0;
     for p in 0..points.len() {
         from = next_run(ends, from, p, &mut run);
-        if let Some(q) = first_unmet_beside(points, list, p, &mut run) {
+        if let Some(q) = first_unmet_beside(points, list, marks, p, &mut run) {
             return Some((p, q));
         }
     }
     None
 }
 
-// The least point for which the need of an inner point p isn't met, or none. Mostly the run, which has ends at p, shows that
-// all are met.
+// The least point for which the need of an inner point p isn't met, or none. Mostly p is marked as a point of the border, or the
+// run, which has ends at p, shows that all are met.
 fn first_unmet_beside(
     points: &Points,
     list: &[Pair],
+    marks: &[bool],
     p: u32,
     run: &mut ArrayVec<u32, MOST_POINTS>,
 ) -> Option<u32>
     requires within { AreWithin points.now list.now }
+    requires marked { length points.now ≤ length marks.now }
+    requires marks { AreOnBorder points.now marks.now }
     requires p_in { p < length points.now }
     requires run { All (Joins list.now p) run.old.items }
     ensures { MatchOption result (IsInner points.now p → MeetsNeedsAt points.now list.now p) (λ q. IsInner points.now p × IsLeast (IsUnmetAt points.now list.now p) (length points.now) q) }
 {
+    if marks[p as usize] {
+        return None;
+    }
     if is_met_round(points, run.as_slice(), p) {
         return None;
     }

@@ -1,6 +1,6 @@
 use Rattle.std.proofs.Common.{length, ◌≤◌, arith}
 use Rattle.cp_judge.proofs.Steps.{missing_more, missing_found}
-use Rattle.cp_judge.proofs.border.first_missing_border.Goals as goal
+use Rattle.cp_judge.proofs.border.least_missing_border.Goals as goal
 
 pub loop-v-preserved : goal.loop-v-preserved
 loop-v-preserved c =

@@ -1,5 +1,5 @@
 use Rattle.cp_judge.specs.Violation.{IsMissingBelow}
-use Rattle.cp_judge.proofs.border.first_missing_border.Given as goal
+use Rattle.cp_judge.proofs.border.least_missing_border.Given as goal
 
 abbrev pub invariant-loop-v : goal.invariant-loop-v
 invariant-loop-v l = IsMissingBelow l.points l.list l.v l.least

@@ -1,18 +1,17 @@
 -- Of a chain that bends one way: all points are on one side of each of its pairs, these are border pairs, and there are no
 -- others on that side.
-use Rattle.std.proofs.Common.{◌≡◌, ◌≢◌, ℕ, zero, suc, ◌+◌, ◌-◌, ◌<◌, ◌≤◌, List, length, slice_index, ℤ, pos, neg_ℤ, ◌<ℤ◌, ◌≤ℤ◌, ◌⊎◌, inl, inr, ⊎_elim, arith, subst, sym, ◌∙◌, ap, refl}
+use Rattle.std.proofs.Common.{◌≡◌, ◌≢◌, ℕ, zero, suc, ◌+◌, ◌-◌, ◌<◌, ◌≤◌, List, length, slice_index, ℤ, pos, neg_ℤ, ◌<ℤ◌, ◌≤ℤ◌, inl, inr, ⊎_elim, arith, subst, sym, ◌∙◌, ap, refl}
 use Rattle.std.proofs.lemmas.Int.{ints}
 use Rattle.std.proofs.lemmas.Bool.{cases_order, cases_lt}
 use Rattle.plane.specs.declared.coordinates.Point.{Point}
 use Rattle.plane.specs.declared.coordinates.Turn.{Turn}
 use Rattle.plane.specs.declared.coordinates.Turn.TheVariants.{Left, Straight, Right}
-use Rattle.plane.specs.Geometry.{point, area, orientation, LiesBetween, IsBetween, IsClear}
+use Rattle.plane.specs.Geometry.{point, area, orientation, IsBetween}
 use Rattle.plane.specs.Accepted.{AreApart}
 use Rattle.plane.specs.Hull.{IsOnSide, IsBorderStep}
-use Rattle.plane.proofs.laws.Area.{area_swap, area_back, area_first, area_second}
+use Rattle.plane.proofs.laws.Area.{area_swap, area_first, area_second}
 use Rattle.plane.proofs.laws.Along.{one_between}
-use Rattle.plane.proofs.laws.Border.{points_differ}
-use Rattle.cp_judge.specs.Chains.{sided, IsOrder, stop, IsInside, IsChain}
+use Rattle.cp_judge.specs.Chains.{sided, IsOrder, stop, IsChain}
 use Rattle.cp_judge.proofs.Forth.{Precedes, not_both_ways, turn_later, turn_earlier, none_amid, between_order}
 
 zero_on : (side : Turn) (z : ℤ) → z ≡ pos 0 → pos 0 ≤ℤ sided side z

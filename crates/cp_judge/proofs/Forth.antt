@@ -1,10 +1,10 @@
 -- Steps forward in the order of the sweep, and turns among them.
-use Rattle.std.proofs.Common.{◌≡◌, ℤ, pos, ◌-ℤ◌, ◌*ℤ◌, neg_ℤ, ◌<ℤ◌, ◌≤ℤ◌, ◌⊎◌, inl, inr, arith, subst, sym, ◌∙◌}
+use Rattle.std.proofs.Common.{◌≡◌, ℤ, pos, ◌-ℤ◌, neg_ℤ, ◌<ℤ◌, ◌≤ℤ◌, ◌⊎◌, inl, inr, arith, subst, sym}
 use Rattle.std.proofs.lemmas.Int.{ints}
 use Rattle.plane.specs.declared.coordinates.Point.{Point}
 use Rattle.plane.specs.declared.coordinates.Turn.{Turn}
 use Rattle.plane.specs.declared.coordinates.Turn.TheVariants.{Left, Straight, Right}
-use Rattle.plane.specs.Geometry.{area, scalar, LiesBetween, AreOpposite}
+use Rattle.plane.specs.Geometry.{area, scalar, LiesBetween}
 use Rattle.number_laws.proofs.Products.{mul_differences}
 use Rattle.number_laws.proofs.Signs.{positive_positive, mul_weak, cancel_weak, zero_left, zero_right}
 use Rattle.number_laws.proofs.Crosses.{cross, cross_back, three_across}

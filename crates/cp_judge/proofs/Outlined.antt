@@ -1,9 +1,9 @@
 -- The order of the sweep, tested; and what two chains say of the border.
-use Rattle.std.proofs.Common.{◌≡◌, ◌≢◌, ℕ, ◌+◌, ◌-◌, ◌<◌, ◌≤◌, List, length, slice_index, slice_index_or, ℤ, pos, ◌-ℤ◌, ◌<ℤ◌, ◌≤ℤ◌, ◌⊎◌, inl, inr, ⊎_elim, arith, subst, sym, ◌∙◌, Bool, IsTrue, false, true≢false, replicate, refl}
-use Rattle.std.specs.List.{All, Contains}
+use Rattle.std.proofs.Common.{◌≡◌, ◌≢◌, ℕ, ◌+◌, ◌-◌, ◌<◌, ◌≤◌, List, length, slice_index, ℤ, pos, ◌-ℤ◌, ◌<ℤ◌, ◌≤ℤ◌, ◌⊎◌, inl, inr, arith, subst, sym, ◌∙◌, Bool, false, true≢false, replicate, refl}
+use Rattle.std.specs.List.{Contains}
 use Rattle.std.specs.List.Sorted.{IsPermutation}
 use Rattle.std.proofs.lemmas.Int.{ints}
-use Rattle.std.proofs.lemmas.Bool.{cases_order, cases_lt}
+use Rattle.std.proofs.lemmas.Bool.{cases_lt}
 use Rattle.std.proofs.lemmas.List.{get_or_default, get_or-replicate}
 use Rattle.std.proofs.lemmas.List.Elements.{All-from_get_or, Contains-get_or}
 use Rattle.std.proofs.lemmas.List.Sorted.{All-permutation, Contains-permutation, IsPermutation-sym}
@@ -15,11 +15,10 @@ use Rattle.plane.specs.Geometry.{point, IsTurn, IsBorderPair, IsInner}
 use Rattle.plane.specs.Accepted.{AreApart}
 use Rattle.plane.specs.Hull.{IsBorderStep}
 use Rattle.plane.proofs.laws.Line.{same_point}
-use Rattle.plane.proofs.laws.Border.{points_differ, step_of_border, border_of_left, border_of_right, not_inner_left, not_inner_right}
+use Rattle.plane.proofs.laws.Border.{step_of_border, border_of_left, border_of_right, not_inner_left, not_inner_right}
 use Rattle.number_laws.proofs.Signs.{by_sign}
 use Rattle.partition_defs.specs.Partition.{Joins, HasBorder}
 use Rattle.partition_defs.specs.Sweep.{IsSweptBefore}
-use Rattle.cp_judge.specs.Violation.{mark}
 use Rattle.cp_judge.specs.Chains.{sided, HasIndices, IsRising, IsOrder, stop, IsChain, HasPairs, AreOnBorder, MarksStops, HasSide}
 use Rattle.cp_judge.proofs.Forth.{Precedes, precedes_on}
 use Rattle.cp_judge.proofs.Chained.{chain_step, step_on_chain}

@@ -1,4 +1,4 @@
-use Rattle.std.proofs.Common.{◌≡◌, ◌<◌, ◌≤◌, ◌+◌, ℕ, length, slice_index, pos, ◌<ℤ◌, ◌≤ℤ◌, ◌⊎◌, IsTrue}
+use Rattle.std.proofs.Common.{◌≡◌, ◌<◌, ℕ, slice_index}
 use Rattle.cp_judge.proofs.outline.copy_indices.Given as goal
 
 abbrev pub invariant-loop-k : goal.invariant-loop-k

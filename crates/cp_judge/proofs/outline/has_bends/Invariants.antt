@@ -1,4 +1,4 @@
-use Rattle.std.proofs.Common.{◌≡◌, ◌<◌, ◌≤◌, ◌+◌, ℕ, length, slice_index, pos, ◌<ℤ◌, ◌≤ℤ◌, ◌⊎◌, IsTrue}
+use Rattle.std.proofs.Common.{◌<◌, ◌+◌, ℕ, pos, ◌≤ℤ◌}
 use Rattle.plane.specs.Geometry.{orientation}
 use Rattle.cp_judge.specs.Chains.{sided, stop}
 use Rattle.cp_judge.proofs.outline.has_bends.Given as goal

@@ -1,4 +1,4 @@
-use Rattle.std.proofs.Common.{◌≡◌, ◌<◌, ◌≤◌, ◌+◌, ℕ, length, slice_index, pos, ◌<ℤ◌, ◌≤ℤ◌, ◌⊎◌, IsTrue}
+use Rattle.std.proofs.Common.{◌<◌, ◌+◌, ℕ}
 use Rattle.partition_defs.specs.Partition.{Joins}
 use Rattle.cp_judge.specs.Chains.{stop}
 use Rattle.cp_judge.proofs.outline.has_pairs.Given as goal

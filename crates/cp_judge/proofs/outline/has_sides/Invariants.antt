@@ -1,4 +1,4 @@
-use Rattle.std.proofs.Common.{◌≡◌, ◌<◌, ◌≤◌, ◌+◌, ℕ, length, slice_index, pos, ◌<ℤ◌, ◌≤ℤ◌, ◌⊎◌, IsTrue}
+use Rattle.std.proofs.Common.{◌<◌, ◌+◌, ℕ, slice_index}
 use Rattle.cp_judge.specs.Chains.{IsInside}
 use Rattle.cp_judge.proofs.outline.has_sides.Given as goal
 

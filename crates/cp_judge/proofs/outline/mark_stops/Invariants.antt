@@ -1,4 +1,4 @@
-use Rattle.std.proofs.Common.{◌≡◌, ◌<◌, ◌≤◌, ◌+◌, ℕ, length, slice_index, pos, ◌<ℤ◌, ◌≤ℤ◌, ◌⊎◌, IsTrue}
+use Rattle.std.proofs.Common.{◌≡◌, ◌<◌, ℕ, ◌⊎◌, IsTrue}
 use Rattle.cp_judge.specs.Violation.{mark}
 use Rattle.cp_judge.specs.Chains.{stop}
 use Rattle.cp_judge.proofs.outline.mark_stops.Given as goal

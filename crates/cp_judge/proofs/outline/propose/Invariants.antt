@@ -1,4 +1,4 @@
-use Rattle.std.proofs.Common.{◌≡◌, ◌<◌, ◌≤◌, ◌+◌, ℕ, length, slice_index, pos, ◌<ℤ◌, ◌≤ℤ◌, ◌⊎◌, IsTrue}
+use Rattle.std.proofs.Common.{◌<◌, length}
 use Rattle.std.specs.List.{All}
 use Rattle.cp_judge.proofs.outline.propose.Given as goal
 

@@ -1,8 +1,7 @@
 -- Pairs at positions of a list, and the first violations among them.
-use Rattle.std.proofs.Common.{◌≡◌, ◌↔◌, IsTrue, ◌<◌, ◌+◌, inl, inr, below_more, ⊎_elim, ℕ, Bool, true, false, List, length, slice_index_or, sym, ◌∙◌, subst, ap, arith, ℤ, pos}
+use Rattle.std.proofs.Common.{◌≡◌, ◌↔◌, IsTrue, ◌<◌, ◌+◌, inl, inr, below_more, ⊎_elim, ℕ, Bool, true, false, List, length, slice_index_or, sym, ◌∙◌, subst, ap, arith}
 use Rattle.std.proofs.lemmas.Bool.{false≢true, cases_order}
 use Rattle.std.proofs.lemmas.List.{get_or_default}
-use Rattle.std.proofs.lemmas.Int.{ints}
 use Rattle.plane.specs.declared.coordinates.Point.{Point}
 use Rattle.plane.specs.declared.segment.Pair.{Pair}
 use Rattle.plane.specs.First.{IsLeast}

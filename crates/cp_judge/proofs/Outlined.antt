@@ -22,7 +22,8 @@ use Rattle.partition_defs.specs.Sweep.{IsSweptBefore}
 use Rattle.cp_judge.specs.Chains.{sided, HasIndices, IsRising, IsOrder, stop, IsChain, HasPairs, AreOnBorder, MarksStops, HasSide}
 use Rattle.cp_judge.proofs.Forth.{Precedes, precedes_on}
 use Rattle.cp_judge.proofs.Chained.{chain_step, step_on_chain}
-use Rattle.cp_judge.proofs.Steps.{border_back, joins_back}
+use Rattle.plane.proofs.laws.Border.{border_back}
+use Rattle.partition_defs.proofs.laws.Joined.{join_back}
 
 -- all indices in another order
 pub indices_moved : (S : List Point) (O P : List ℕ) → length O ≡ length S → length P ≡ length S → ((k : ℕ) → k < length O → slice_index O k ≡ k) → IsPermutation O P → HasIndices S P
@@ -121,7 +122,7 @@ border_of_sides S K apart left right i j ij hj pair =
     let ne : j ≢ i = λ e. omega arith in
     elim (precedes_or (point S i) (point S j) (apart i j ij hj)) [
       | inl h ↦ elim (step_of_border S i j hj ne pair) [ inl step ↦ left i j hi h step | inr step ↦ right i j hi h step ]
-      | inr h ↦ joins_back K j i (elim (step_of_border S j i hi (λ e. ne (sym e)) (border_back S i j pair)) [ inl step ↦ left j i hj h step | inr step ↦ right j i hj h step ])
+      | inr h ↦ join_back K j i (elim (step_of_border S j i hi (λ e. ne (sym e)) (border_back S i j pair)) [ inl step ↦ left j i hj h step | inr step ↦ right j i hj h step ])
     ]
 
 -- what is joined in a list in another order

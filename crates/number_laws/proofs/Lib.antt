@@ -4,3 +4,4 @@ pub mod Products
 pub mod Signs
 pub mod Crosses
 pub mod Sums
+pub mod Loops

@@ -1,7 +1,7 @@
 use Rattle.std.proofs.Common.{sym, rules, arith}
 use Rattle.plane.specs.declared.segment.Pair.{Pair}
 use Rattle.partition_defs.specs.Partition.{CrossesNone}
-use Rattle.partition_defs.proofs.Steps.{more_items}
+use Rattle.number_laws.proofs.Loops.{more_items}
 use Rattle.partition_defs.proofs.are_plane.Goals as goal
 
 pub crosses_none-requires : goal.crosses_none-requires

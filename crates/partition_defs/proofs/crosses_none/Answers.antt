@@ -2,7 +2,7 @@ use Rattle.std.proofs.Common.{sym, ◌∙◌}
 use Rattle.std.proofs.lemmas.Bool.{false≢true}
 use Rattle.plane.specs.declared.segment.Pair.{Pair}
 use Rattle.plane.specs.Geometry.{AreCrossing}
-use Rattle.partition_defs.proofs.Steps.{more_items}
+use Rattle.number_laws.proofs.Loops.{more_items}
 use Rattle.partition_defs.proofs.crosses_none.Goals as goal
 
 pub cross-requires : goal.cross-requires

@@ -1,5 +1,5 @@
 use Rattle.partition_defs.specs.Partition.{IsConvexPartition}
-use Rattle.partition_defs.proofs.Steps.{passed, refuses}
+use Rattle.number_laws.proofs.Loops.{passed, refuses}
 use Rattle.partition_defs.proofs.is_convex_partition_plain.Goals as goal
 
 pub are_clear-requires : goal.are_clear-requires

@@ -2,7 +2,7 @@ use Rattle.std.proofs.Common.{rules, ℕ}
 use borrow.Author.Count.{below_more}
 use Rattle.plane.specs.Geometry.{IsInner}
 use Rattle.partition_defs.specs.Partition.{MeetsNeedsAt, MeetsNeeds}
-use Rattle.partition_defs.proofs.Steps.{refuses}
+use Rattle.number_laws.proofs.Loops.{refuses}
 use Rattle.partition_defs.proofs.meets_needs.Goals as goal
 
 pub loop-p-preserved : goal.loop-p-preserved

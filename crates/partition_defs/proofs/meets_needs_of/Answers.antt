@@ -1,4 +1,4 @@
-use Rattle.partition_defs.proofs.Steps.{passed}
+use Rattle.number_laws.proofs.Loops.{passed}
 use Rattle.partition_defs.proofs.meets_needs_of.Goals as goal
 
 pub returns-else-not-is_inner : goal.returns-else-not-is_inner

@@ -1,4 +1,4 @@
--- One more element at a step of a loop over a list.
+-- What a test at a step of a loop over a list adds.
 use Rattle.std.proofs.Common.{sym, Bool, true, false, IsTrue, ◌↔◌, ◌≡◌, ◌<◌, ◌+◌, ℕ, List, length, slice_index_or, ◌∙◌, subst}
 use Rattle.std.proofs.lemmas.List.{get_or_default}
 use Rattle.std.proofs.lemmas.Bool.{false≢true}

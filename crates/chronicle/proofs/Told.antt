@@ -15,7 +15,7 @@ use Rattle.index_sets.specs.Prefixes.{longer}
 use Rattle.index_sets.specs.Entries.{entries_of, SparesPlace}
 use Rattle.index_sets.proofs.Laws.{contains-first, HasNoRepeat-all_but, AllByRecursion-contains, AllByRecursion-past, IsPrefix-length, IsPrefix-append, get_elem?-snoc, entries_of-lacks}
 use Rattle.chronicle.specs.declared.table.View.{View}
-use Rattle.chronicle.specs.History.{ChronicleSeen, only, IsCaller, IsHistory, GoesOn}
+use Rattle.chronicle.specs.History.{ChronicleSeen, only, IsCaller, IsShare, GoesOn}
 use Rattle.chronicle.specs.Kept.{Tells, AreCallersFrom, Learned, Added, both, side_of, without_part, with_part}
 use Rattle.chronicle.specs.Settled.{numbered, IsSettled, share_of}
 
@@ -40,15 +40,18 @@ module _ {T : Type 0} (caller : T → ℕ) (touches : T → ℕ → Bool) where
   later_snoc : (most n : ℕ) (seen : List T) (e : T) → AreCallersFrom caller most n seen → IsCaller most (caller e) → AreCallersFrom caller most n (seen ++ e ∷ [])
   later_snoc most n seen e was own k x le at = ⊎_elim (λ old. was k x le old) (λ (new : (e ≡ x) × (k ≡ length seen)). subst (λ y. IsCaller most (caller y)) new.0 own) (get_elem?-snoc seen e x k at)
 
-  -- what a settled seat has seen is the chronicle's history so far
-  pub is_history : (m : M) (of : ChronicleSeen T) → IsSettled caller m → m.0.first ≡ of.first → m.0.most ≡ of.callers → IsHistory caller of m.0.seen
-  is_history m of s first most =
-      let begun : IsPrefix of.first m.0.seen = subst (λ l. IsPrefix l m.0.seen) first s.first in record {
-        later = begun.0;
-        is = sym begun.1;
-        callers = AllByRecursion-past (λ (e : T). IsCaller of.callers (caller e)) of.first begun.0
-            (λ k e le at. subst (λ z. IsCaller z (caller e)) most (s.later k e (subst (λ l. length l ≤ k) (sym first) le) (sym (ap (λ l. get_elem? l k) begun.1) ∙ at)));
-      }
+  -- what holds of each settled seat, in the words of contracts
+  pub is_share : (id : TableId) (m : M) → IsSettled caller m → IsShare caller (share_of caller id m.0)
+  is_share id m s = record {
+    history = record {
+      later = s.first.0;
+      is = sym s.first.1;
+      callers = AllByRecursion-past (λ (e : T). IsCaller m.0.most (caller e)) m.0.first s.first.0 (λ k e le at. s.later k e le (sym (ap (λ l. get_elem? l k) s.first.1) ∙ at));
+    };
+    mine = refl;
+    callers = s.most;
+    once = s.once;
+  }
 
   -- what a settled seat knows of a longer history
   pub goes_on : (id : TableId) (m : M) (history : List T) → IsSettled caller m → Tells caller touches m.0.seen m.0.parts m.0.callers m.0.last history → AreCallersFrom caller m.0.most (length m.0.first) history → GoesOn caller touches (share_of caller id m.0) history

@@ -2,7 +2,7 @@
 use Rattle.std.specs.Prelude.{◌≡◌, ℕ, ◌+◌, ◌<◌, ◌≤◌, Bool, true, List, [], ◌∷◌, ◌++◌}
 use Rattle.std.specs.List.{AllByRecursion}
 use Rattle.atomic_table.specs.Seated.{TableId}
-use Rattle.index_sets.specs.Indices.{contains, numbers_from}
+use Rattle.index_sets.specs.Indices.{contains, HasNoRepeat, numbers_from}
 use Rattle.index_sets.specs.Entries.{entries_of, LacksCaller, SparesPlace}
 
 -- A chronicle: which it is, its last part, its number of callers, and the entries that it began with
@@ -45,6 +45,13 @@ module _ {T : Type 0} (caller : T → ℕ) where
     pub later : List T
     pub is : entries ≡ of.first ++ later
     pub callers : AllByRecursion (λ (e : T). IsCaller of.callers (caller e)) later
+
+  -- what holds of each share
+  pub record IsShare (share : ShareSeen T) : Type 0 where
+    pub history : IsHistory share.of share.seen
+    pub mine : share.mine ≡ entries_of caller share.caller share.seen
+    pub callers : share.caller ≤ share.of.callers
+    pub once : HasNoRepeat share.parts
 
   -- The share has seen the beginning of a history. What came after touches none of its parts (each entry counts as
   -- touching the last part), and is of callers, but not of its own.

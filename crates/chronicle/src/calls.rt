@@ -2,7 +2,7 @@
 ghost use Rattle.std.specs.Prelude.{◌≡◌, ◌≢◌, ℕ, ◌+◌, ◌-◌, ◌^◌, ◌<◌, ◌≤◌, List, [], ◌∷◌, ◌++◌, length, map, Some, IfOk, IsTrue, vec_capacity};
 ghost use Rattle.index_sets.specs.Indices.{contains, all_but, numbers_from};
 ghost use Rattle.index_sets.specs.Prefixes.{longer};
-ghost use Rattle.chronicle.specs.History.{whole_share, caller_share, GoesOn, IsHistory};
+ghost use Rattle.chronicle.specs.History.{whole_share, caller_share, GoesOn, IsShare};
 ghost use Rattle.chronicle.specs.Kept.{first_view};
 ghost use Rattle.chronicle.specs.Settled.{named, IsDealing};
 
@@ -102,6 +102,7 @@ impl<T: Entry> Chronicle<T> {
         ensures left { from.new ≡ record from.old { parts = all_but from.old.parts place } }
         ensures latest { (others : List ℕ) → from.old.parts ≡ others ++ place ∷ [] → from.new.parts ≡ others }
         ensures right { result ≡ record from.old { caller = 0; mine = []; parts = place ∷ [] } }
+        ensures valid { IsShare T.caller from.new × IsShare T.caller result }
     {
         let seat = self.table.shared.split_seat::<CutsPart<B>>(&mut from.seat);
         Share { seat }
@@ -114,6 +115,7 @@ impl<T: Entry> Chronicle<T> {
         ensures left { from.new ≡ record from.old { parts = all_but from.old.parts place } }
         ensures latest { (others : List ℕ) → from.old.parts ≡ others ++ place ∷ [] → from.new.parts ≡ others }
         ensures right { result ≡ record from.old { caller = 0; mine = []; parts = place ∷ [] } }
+        ensures valid { IsShare T.caller from.new × IsShare T.caller result }
     {
         self.split_at::<Brand>(from, place)
     }
@@ -126,7 +128,7 @@ impl<T: Entry> Chronicle<T> {
             { seen = longer into.old.seen from.seen; parts = into.old.parts ++ from.parts } }
         ensures into { GoesOn T.caller T.touches into.old into.new.seen }
         ensures from { GoesOn T.caller T.touches from into.new.seen }
-        ensures history { IsHistory T.caller self.now into.new.seen }
+        ensures valid { IsShare T.caller into.new }
     {
         let Share { seat } = from;
         let shared = &self.table.shared;
@@ -144,7 +146,7 @@ impl<T: Entry> Chronicle<T> {
         ensures grown { share.new ≡ record share.old
             { seen = share.old.seen ++ entry.now ∷ []; mine = share.old.mine ++ entry.now ∷ [] } }
         ensures number { result ≡ length share.new.seen }
-        ensures history { IsHistory T.caller self.now share.new.seen }
+        ensures valid { IsShare T.caller share.new }
     {
         self.table
             .shared
@@ -162,7 +164,7 @@ impl<T: Entry> Chronicle<T> {
         ensures grown { share.new ≡ record share.old
             { seen = share.old.seen ++ entry.now ∷ []; mine = share.old.mine ++ entry.now ∷ [] } }
         ensures number { result ≡ length share.new.seen }
-        ensures history { IsHistory T.caller self.now share.new.seen }
+        ensures valid { IsShare T.caller share.new }
     {
         self.append_told::<Brand>(share, entry)
     }
@@ -173,7 +175,7 @@ impl<T: Entry> Chronicle<T> {
         ensures same { share.new ≡ share.old }
         ensures least { length share.old.seen ≤ result }
         ensures whole { IsTrue (contains share.old.parts self.now.last) → result ≡ length share.old.seen }
-        ensures history { IsHistory T.caller self.now share.new.seen }
+        ensures valid { IsShare T.caller share.new }
     {
         self.table.shared.load::<Learns>(&mut share.seat, 0)
     }

@@ -7,7 +7,7 @@ use Rattle.index_sets.specs.Owners.{one_of, rest_of}
 use Rattle.index_sets.proofs.Laws.{is_false, contains-first, contains-one, contains-append, all_but-is_other, all_but-snoc, HasNoRepeat-snoc, HasNoRepeat-all_but, HasNoRepeat-numbers_from, numbers_from-least, numbers_from-all, numbers_from-snoc}
 use Rattle.vertex_claims.specs.declared.table.View.{View}
 use Rattle.vertex_claims.specs.declared.table.About.{About}
-use Rattle.vertex_claims.specs.Holding.{IsAnother, new_holder}
+use Rattle.vertex_claims.specs.Holding.{IsAnother, IsHolder, new_holder}
 use Rattle.vertex_claims.specs.Kept.{Kept, first_view, without_number, with_number, won, missed, at_rest, given, Lost}
 use Rattle.vertex_claims.specs.Resting.{named, holder_of, IsResting, IsLaying, IsDealing}
 use Rattle.vertex_claims.proofs.Moves.{cuts}
@@ -48,6 +48,10 @@ module _ {R C : Type 0} (id : TableId) (root : R) (number : ℕ) where
     once = HasNoRepeat-all_but m.0.places i r.once;
     within = λ j h. r.within j (all_but-is_other m.0.places i j h).0;
   }
+
+  -- what holds of each holder at rest
+  pub is_holder : (m : Mine R C) → IsResting id root number m → IsHolder (holder_of id root number m.0)
+  is_holder m r = record { least = r.least; most = r.most; once = r.once; within = r.within }
 
   -- what was found is the number of another holder
   pub is_another : (fits : R → ℕ → C → Type 0) (m w : Mine R C) (i n : ℕ) → IsResting id root number m → Lost fits m i n w → IsAnother (holder_of id root number m.0) n

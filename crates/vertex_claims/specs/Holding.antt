@@ -1,6 +1,7 @@
 -- What contracts see of claims and of a holder.
-use Rattle.std.specs.Prelude.{◌≡◌, ◌≢◌, ℕ, ◌≤◌, List, [], Some, slice_get}
+use Rattle.std.specs.Prelude.{◌≡◌, ◌≢◌, ℕ, ◌<◌, ◌≤◌, true, List, [], Some, slice_get}
 use Rattle.atomic_table.specs.Seated.{TableId}
+use Rattle.index_sets.specs.Indices.{contains, HasNoRepeat}
 
 -- Claims: which they are, how many places and holders they have, and their root
 pub record ClaimsSeen (R : Type 0) : Type 0 where
@@ -26,6 +27,13 @@ module _ {R : Type 0} where
   -- it is a holder of these claims, and holds nothing
   abbrev pub IsIdle : ClaimsSeen R → HolderSeen R → Type 0
   IsIdle of h = (h.of ≡ of) × (h.places ≡ [])
+
+  -- what holds of each holder
+  pub record IsHolder (h : HolderSeen R) : Type 0 where
+    pub least : 1 ≤ h.number
+    pub most : h.number ≤ h.of.callers
+    pub once : HasNoRepeat h.places
+    pub within : (place : ℕ) → contains h.places place ≡ true → place < h.of.places
 
   -- the number of another holder of the same claims
   pub record IsAnother (h : HolderSeen R) (number : ℕ) : Type 0 where

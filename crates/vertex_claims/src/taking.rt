@@ -1,7 +1,7 @@
 // Taking cells and giving them back.
 ghost use Rattle.std.specs.Prelude.{◌≡◌, ℕ, ◌<◌, List, [], ◌∷◌, ◌++◌, IfOk, OnOk, IfErr, IsOk, IsTrue, IsFalse, None};
 ghost use Rattle.index_sets.specs.Indices.{contains, all_but};
-ghost use Rattle.vertex_claims.specs.Holding.{IsAnother};
+ghost use Rattle.vertex_claims.specs.Holding.{IsAnother, IsHolder};
 ghost use Rattle.vertex_claims.specs.Kept.{given};
 
 use crate::holding::{Claims, Held, Holder};
@@ -40,6 +40,7 @@ impl<C: Held> Claims<C> {
         ensures lost { IfErr result (λ t. by.new ≡ record by.old { misses = by.old.misses ++ (place, t.holder) ∷ [] }) }
         ensures another { IfErr result (λ t. IsAnother by.old t.holder) }
         ensures alone { self.now.callers ≡ 1 → IsOk result }
+        ensures valid { IsHolder by.new }
     {
         let shared = &self.table.shared;
         let at = place as usize;
@@ -62,6 +63,7 @@ impl<C: Held> Claims<C> {
         requires fits { C.fits self.now.root place cell }
         ensures given { by.new ≡ record by.old { places = all_but by.old.places place } }
         ensures latest { (others : List ℕ) → by.old.places ≡ others ++ place ∷ [] → by.new.places ≡ others }
+        ensures valid { IsHolder by.new }
     {
         lay_back(&self.table.shared, &mut by.seat, place as usize, cell);
     }

@@ -2,7 +2,7 @@ use Rattle.std.proofs.Common.{arith, ◌<◌, ◌^◌, ◌-◌, List, [], ◌∷
 use Rattle.index_sets.specs.Indices.{contains}
 use Rattle.chronicle.specs.History.{ChronicleSeen, ShareSeen}
 use Rattle.chronicle.proofs.Moves.{adds}
-use Rattle.chronicle.proofs.Told.{only-contains, settled_added, is_history}
+use Rattle.chronicle.proofs.Told.{only-contains, settled_added, is_share}
 use Rattle.chronicle.proofs.history.Chronicle.append_told.Goals as goal
 
 pub fetch_add-requires : goal.fetch_add-requires
@@ -36,8 +36,5 @@ returns-clause-number g c =
     let l = length-append c.share.inside.seat.me.0.seen (c.args.entry.now ∷ []) in
     omega arith
 
-pub returns-clause-history : goal.returns-clause-history
-returns-clause-history g c =
-    let w = c.fetch_add.ensures.2.after c.args.entry.now c.requires.told in
-    let same = ap (λ (p : ShareSeen g.row.T.Denot). p.of) c.share.view_is ∙ c.requires.of in
-    is_history g.T.Entry.caller g.T.Entry.touches _ _ (invariant_of-share g c) (ap (λ m. m.0.first) w ∙ ap (λ (n : ChronicleSeen g.row.T.Denot). n.first) same) (ap (λ m. m.0.most) w ∙ ap (λ (n : ChronicleSeen g.row.T.Denot). n.callers) same)
+pub returns-clause-valid : goal.returns-clause-valid
+returns-clause-valid g c = is_share g.T.Entry.caller g.T.Entry.touches c.fetch_add.new.seat.table_id c.fetch_add.new.seat.me (invariant_of-share g c)

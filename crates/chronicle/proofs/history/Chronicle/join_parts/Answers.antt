@@ -4,7 +4,7 @@ use Rattle.chronicle.specs.History.{ChronicleSeen, ShareSeen, GoesOn}
 use Rattle.chronicle.specs.Kept.{Tells, AreCallersFrom}
 use Rattle.chronicle.specs.Settled.{share_of}
 use Rattle.chronicle.proofs.Moves.{glues, learns}
-use Rattle.chronicle.proofs.Told.{is_joined, is_history, goes_on, share-joined}
+use Rattle.chronicle.proofs.Told.{is_joined, is_share, goes_on, share-joined}
 use Rattle.chronicle.proofs.history.Chronicle.join_parts.Goals as goal
 
 pub join_seat-requires : goal.join_seat-requires
@@ -56,9 +56,5 @@ returns-clause-from g c =
     subst (λ (s : ShareSeen g.row.T.Denot). GoesOn g.T.Entry.caller g.T.Entry.touches s c.load.new.seat.me.0.seen) c.from.view_is
     (goes_on g.T.Entry.caller g.T.Entry.touches c.from.inside.seat.table_id c.from.inside.seat.me c.load.new.seat.me.0.seen c.from.invariant tells later)
 
-pub returns-clause-history : goal.returns-clause-history
-returns-clause-history g c =
-    let j = is_joined g.T.Entry.caller g.T.Entry.touches c.into.inside.seat.me c.from.inside.seat.me c.join_seat.new.seat.me c.load.new.seat.me _ c.into.invariant c.from.invariant
-    (ap (λ (p : ShareSeen g.row.T.Denot). p.caller) c.from.view_is ∙ c.requires.nobody) c.join_seat.ensures.2 c.load.ensures.2 in
-    let same = ap (λ (p : ShareSeen g.row.T.Denot). p.of) c.into.view_is ∙ c.requires.of.0 in
-    is_history g.T.Entry.caller g.T.Entry.touches c.load.new.seat.me c.args.self.now j.settled (ap (λ v. v.first) j.view ∙ ap (λ (n : ChronicleSeen g.row.T.Denot). n.first) same) (ap (λ v. v.most) j.view ∙ ap (λ (n : ChronicleSeen g.row.T.Denot). n.callers) same)
+pub returns-clause-valid : goal.returns-clause-valid
+returns-clause-valid g c = is_share g.T.Entry.caller g.T.Entry.touches c.load.new.seat.table_id c.load.new.seat.me (invariant_of-into g c)

@@ -6,7 +6,7 @@ use Rattle.vertex_claims.specs.Holding.{ClaimsSeen, HolderSeen}
 use Rattle.vertex_claims.specs.Kept.{won, at_rest}
 use Rattle.vertex_claims.specs.Resting.{IsResting}
 use Rattle.vertex_claims.proofs.Moves.{tries_as, lays_as}
-use Rattle.vertex_claims.proofs.Rests.{rests_won}
+use Rattle.vertex_claims.proofs.Rests.{rests_won, is_holder}
 use Rattle.vertex_claims.proofs.holding.Claims.take.Goals as goal
 
 pub compare_exchange-found-requires : goal.compare_exchange-found-requires
@@ -52,3 +52,6 @@ invariant_of-by-2 g c =
     let id = c.load.ensures.0 ∙ (c.exchange.ensures.0 ∙ c.compare_exchange-found.ensures.0) in
     subst (λ z. IsResting z c.by.inside.root.value c.by.inside.number c.load.new.seat.me) (sym id)
     (rests_won c.by.inside.seat.table_id c.by.inside.root.value c.by.inside.number c.by.inside.seat.me c.load.new.seat.me c.args.place c.by.invariant free near (c.load.ensures.2 ∙ (λ i. (at_rest (bare i).0, rest (bare i).1))))
+
+pub returns-clause-valid : goal.returns-clause-valid
+returns-clause-valid g c = is_holder c.load.new.seat.table_id c.by.inside.root.value c.by.inside.number c.load.new.seat.me (invariant_of-by-2 g c)

@@ -2,4 +2,4 @@ pub mod Unclaimed
 pub mod Rising
 pub mod Shown
 pub mod Rows
-pub mod Following
+pub mod StarSteps

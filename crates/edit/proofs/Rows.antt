@@ -1,5 +1,6 @@
 -- The rows of the table from their parts.
-use Rattle.std.proofs.Common.{◌≡◌, ℕ, List, ◌⊎◌, inl, inr, sym, subst, Option, Some, None, Ok, Err}
+use Rattle.std.proofs.Common.{◌≡◌, ℕ, List, ◌⊎◌, inl, inr, sym, subst, refl, Option, Some, None, Ok, Err}
+use Rattle.std.proofs.lemmas.Bool.{false≢true}
 use Rattle.std.specs.Prelude.{Result, MatchResult, IsOk}
 use Rattle.plane.specs.declared.coordinates.Point.{Point}
 use Rattle.plane.specs.declared.segment.Pair.{Pair}
@@ -13,26 +14,6 @@ use Rattle.edit.specs.Shown.{IsShownApex}
 use Rattle.edit.specs.DropRow.{IsKeptOrWhy}
 use Rattle.edit.specs.FlipRow.{IsFreshOrWhy, IsOneOf, AreApexesOrWhy, AreSidesOrWhy}
 use Rattle.edit.proofs.Shown.{one_of_apex, apex_one_of, joins_shown, shown_some}
-
-pub kept_refuses : {T : Type 0} (S : List Point) (low high : Seen) (e : Pair) (why : Why) → IsKeptOrWhy {T} low e (Err why) → RefusesDrop S low high e why
-kept_refuses {T} S low high e NotThere h = h
-kept_refuses {T} S low high e NotKept h = h
-kept_refuses {T} S low high e NotSpare h = absurd h
-kept_refuses {T} S low high e Border h = absurd h
-kept_refuses {T} S low high e (Opens v) h = absurd h
-kept_refuses {T} S low high e AlreadyThere h = absurd h
-kept_refuses {T} S low high e (NotApex v) h = absurd h
-kept_refuses {T} S low high e (Bent v) h = absurd h
-
-pub fresh_refuses : {T : Type 0} (S : List Point) (low high new : Seen) (e f : Pair) (why : Why) → IsFreshOrWhy {T} low new e f (Err why) → RefusesFlip S low high new e f why
-fresh_refuses {T} S low high new e f NotThere h = h
-fresh_refuses {T} S low high new e f NotSpare h = h
-fresh_refuses {T} S low high new e f AlreadyThere h = h
-fresh_refuses {T} S low high new e f NotKept h = absurd h
-fresh_refuses {T} S low high new e f Border h = absurd h
-fresh_refuses {T} S low high new e f (Opens v) h = absurd h
-fresh_refuses {T} S low high new e f (NotApex v) h = absurd h
-fresh_refuses {T} S low high new e f (Bent v) h = absurd h
 
 -- the stars of the old pair's ends and the apexes that they show
 pub record HasShown (S : List Point) (low high : Seen) (e : Pair) (near far : Option ℕ) : Type 0 where
@@ -48,16 +29,16 @@ first_no_apex S low high e f near far v h (inl x) =
 first_no_apex S low high e f near far v h (inr x) =
     inr (x.0, one_of_apex S low high e f.lo near far h.near_shown h.far_shown x.1, λ a. x.2 (apex_one_of S low high e f.hi near far h.low_star h.high_star h.near_shown h.far_shown a))
 
-pub apexes_refuse : {T : Type 0} (S : List Point) (low high new : Seen) (e f : Pair) (near far : Option ℕ) (why : Why) → HasShown S low high e near far → IsFresh low new e f
-    → AreApexesOrWhy {T} near far f (Err why) → RefusesFlip S low high new e f why
-apexes_refuse {T} S low high new e f near far (NotApex v) shown fresh h = (fresh, first_no_apex S low high e f near far v shown h)
-apexes_refuse {T} S low high new e f near far NotThere shown fresh h = absurd h
-apexes_refuse {T} S low high new e f near far NotKept shown fresh h = absurd h
-apexes_refuse {T} S low high new e f near far NotSpare shown fresh h = absurd h
-apexes_refuse {T} S low high new e f near far Border shown fresh h = absurd h
-apexes_refuse {T} S low high new e f near far (Opens v) shown fresh h = absurd h
-apexes_refuse {T} S low high new e f near far AlreadyThere shown fresh h = absurd h
-apexes_refuse {T} S low high new e f near far (Bent v) shown fresh h = absurd h
+pub apexes_refuse : (T : Type 0) (S : List Point) (low high new : Seen) (e f : Pair) (near far : Option ℕ) (why : Why) → HasShown S low high e near far → IsFresh low new e f
+    → AreApexesOrWhy {T = T} near far f (Err why) → RefusesFlip S low high new e f why
+apexes_refuse T S low high new e f near far (NotApex v) shown fresh h = (fresh, first_no_apex S low high e f near far v shown h)
+apexes_refuse T S low high new e f near far NotThere shown fresh h = absurd h
+apexes_refuse T S low high new e f near far NotKept shown fresh h = absurd h
+apexes_refuse T S low high new e f near far NotSpare shown fresh h = absurd h
+apexes_refuse T S low high new e f near far Border shown fresh h = absurd h
+apexes_refuse T S low high new e f near far (Opens v) shown fresh h = absurd h
+apexes_refuse T S low high new e f near far AlreadyThere shown fresh h = absurd h
+apexes_refuse T S low high new e f near far (Bent v) shown fresh h = absurd h
 
 -- with both apexes the sides decide
 pub sides_decide : {T : Type 0} (S : List Point) (low high new : Seen) (e f : Pair) (near far : Option ℕ) (k l : ℕ) (r : Result T Why) → HasShown S low high e near far → IsFresh low new e f → near ≡ Some k → far ≡ Some l
@@ -104,5 +85,5 @@ flip_told {T} S star low high new e f r a b c h =
 
 -- an answer of the table on true stars is Ok exactly where the edit is legal
 pub ok_legal : {T : Type 0} (P L : Type 0) (R : Why → Type 0) (r : Result T Why) → MatchResult r (λ _. P) (λ why. R why) → (P → L) → ((why : Why) → R why → ¬ L) → (IsOk r → L) × (L → IsOk r)
-ok_legal {T} P L R (Ok _) h to not = (λ t. to h, λ l. tt)
-ok_legal {T} P L R (Err why) h to not = (λ t. absurd t, λ l. absurd (not why h l))
+ok_legal {T} P L R (Ok _) h to not = (λ t. to h, λ l. refl)
+ok_legal {T} P L R (Err why) h to not = (λ t. absurd (false≢true t), λ l. absurd (not why h l))

@@ -1,6 +1,6 @@
 -- What the shown apexes of a pair say of all its apexes, and what a mark says.
 use Rattle.std.proofs.Common.{◌≡◌, ◌≢◌, ℕ, pos, ◌+◌, ◌<◌, Bool, true, false, List, length, ◌⊎◌, inl, inr, sym, ◌∙◌, ap, subst, arith, Option, Some, None}
-use Rattle.std.specs.Prelude.{◌<ℤ◌}
+use Rattle.std.specs.Prelude.{◌<ℤ◌, IfSome}
 use Rattle.plane.specs.declared.coordinates.Point.{Point}
 use Rattle.plane.specs.declared.segment.Pair.{Pair}
 use Rattle.std.proofs.lemmas.Int.{ints}
@@ -10,18 +10,15 @@ use Rattle.partition_defs.specs.Partition.{HasEnds}
 use Rattle.star.specs.Stars.{Seen, entry, around, IsStar, StandsAt, IsNext, IsNeighbour, HasMark}
 use Rattle.star.specs.Gaps.{IsKept, MeetsAll, MeetsWithout, MissesSome, MissesWithout}
 use Rattle.journal_defs.specs.Table.{ShowsApex, IsEitherApex, JoinsApexes}
-use Rattle.journal_defs.proofs.laws.Table.{stands_once, one_mark, one_shown}
+use Rattle.std.proofs.lemmas.Bool.{false≢true}
+use Rattle.star.proofs.laws.Marks.{one_mark, one_next, mark_at, marked_neighbour}
+use Rattle.journal_defs.proofs.laws.Table.{one_shown}
 use Rattle.edit.specs.Shown.{IsShownApex}
 use Rattle.edit.specs.FlipRow.{IsOneOf}
 
--- a star shows one neighbour after another
-next_once : (s : Seen) (q r t : ℕ) → IsStar s → IsNext s q (Some r) → IsNext s q (Some t) → r ≡ t
-next_once s q r t star (k, hk, er) (j, hj, et) =
-    er ∙ ap (λ i. (entry s.list (around (length s.list) (i + 1))).0) (stands_once s q k j star hk hj) ∙ sym et
-
 -- where the neighbour after q isn't on the left there is no apex
 pub not_left : (S : List Point) (s : Seen) (p q r : ℕ) → IsStar s → IsNext s q (Some r) → ¬ (pos 0 <ℤ orientation S p q r) → (t : ℕ) → ¬ ShowsApex S s p q t
-not_left S s p q r star next right t h = right (subst (λ x. pos 0 <ℤ orientation S p q x) (next_once s q t r star h.0 next) h.1)
+not_left S s p q r star next right t h = right (subst (λ x. pos 0 <ℤ orientation S p q x) (one_next s q t r star h.0 next) h.1)
 
 pub not_next : (S : List Point) (s : Seen) (p q : ℕ) → IsNext s q None → (t : ℕ) → ¬ ShowsApex S s p q t
 not_next S s p q none t ((k, stands, is), left) = none (k, stands)
@@ -66,13 +63,6 @@ both_there near far f (inr x) (inl y) = ((f.hi, y), (f.lo, x))
 both_there near far f (inl x) (inl y) = absurd (let p = same_some f.lo f.hi (sym x ∙ y) in let o = f.ordered in omega (arith, p))
 both_there near far f (inr x) (inr y) = absurd (let p = same_some f.lo f.hi (sym x ∙ y) in let o = f.ordered in omega (arith, p))
 
--- a marked neighbour
-pub marked_there : (s : Seen) (q : ℕ) (b : Bool) → HasMark s q b → IsNeighbour s q
-marked_there s q b (k, hk, at) = (k, (hk, ap (λ (x : ℕ × Bool). x.0) at))
-
-pub not_kept : (s : Seen) (q : ℕ) → IsStar s → HasMark s q false → ¬ HasMark s q true
-not_kept s q star m k = one_mark s q star m k
-
 -- without a neighbour that isn't kept the needs are those of all kept neighbours
 kept_at : (s : Seen) (k : ℕ) → IsKept s.list k → HasMark s (entry s.list k).0 true
 kept_at s k kept = (k, kept.0, ap (λ (b : Bool). (let p : ℕ × Bool = ((entry s.list k).0, b) in p)) kept.1)
@@ -107,3 +97,14 @@ apexes_inside S low high e k l hk kn hl ln (clear, inl left) =
     (let w = left l ln in let z = area_back (point S e.lo) (point S e.hi) (point S l) in let u = hl.1 in omega (arith, ints))
 apexes_inside S low high e k l hk kn hl ln (clear, inr left) =
     (let w = left k kn in let z = area_back (point S e.hi) (point S e.lo) (point S k) in let u = hk.1 in omega (arith, ints))
+
+-- a neighbour whose mark is false
+pub spare_of : (s : Seen) (q : ℕ) (b : Bool) → IsStar s → HasMark s q b → b ≡ false → IsNeighbour s q × ¬ HasMark s q true
+spare_of s q b star m e = (marked_neighbour s q b m, λ g. one_mark s q star (subst (λ (x : Bool). HasMark s q x) e m) g)
+
+-- at its position a neighbour whose mark is false
+pub not_kept_at : (s : Seen) (q k : ℕ) → IsStar s → StandsAt s k q → (entry s.list k).1 ≡ false → ¬ HasMark s q true
+not_kept_at s q k star stands off m = false≢true (sym off ∙ mark_at s q k true star m stands)
+
+pub some_within : (o : Option ℕ) (v n : ℕ) → IfSome o (λ r. r < n) → o ≡ Some v → v < n
+some_within o v n h e = let P : Option ℕ → Type 0 = λ x. IfSome x (λ r. r < n) in subst P e h

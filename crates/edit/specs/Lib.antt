@@ -5,4 +5,3 @@ pub mod Plans
 pub mod Lesser
 pub mod BadPlans
 pub mod Steps
-pub mod Round

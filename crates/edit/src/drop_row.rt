@@ -16,13 +16,7 @@ fn is_kept(points: &Points, lower: &Star, e: Pair) -> Result<(), Why>
 {
     match pair_mark(points, lower, e) {
         None => Err(Why::NotThere),
-        Some(kept) => {
-            if kept {
-                Ok(())
-            } else {
-                Err(Why::NotKept)
-            }
-        }
+        Some(kept) => { if kept { Ok(()) } else { Err(Why::NotKept) } }
     }
 }
 
@@ -46,11 +40,9 @@ fn is_border(points: &Points, lower: &Star, upper: &Star, e: Pair) -> bool
 pub fn drop_fits(points: &Points, lower: &Star, upper: &Star, e: Pair) -> Result<(), Why>
     requires lower { IsAt points.now lower.now e.lo }
     requires upper { IsAt points.now upper.now e.hi }
-    ensures {
-        MatchResult result
-            (λ _. FitsDrop points.now lower.now upper.now e)
-            (λ why. RefusesDrop points.now lower.now upper.now e why)
-    }
+    ensures { MatchResult result
+        (λ _. FitsDrop points.now lower.now upper.now e)
+        (λ why. RefusesDrop points.now lower.now upper.now e why) }
 {
     let _degree = upper.degree();
     is_kept(points, lower, e)?;
@@ -73,12 +65,6 @@ pub fn keep_fits(points: &Points, lower: &Star, e: Pair) -> Result<(), Why>
 {
     match pair_mark(points, lower, e) {
         None => Err(Why::NotThere),
-        Some(kept) => {
-            if kept {
-                Err(Why::NotSpare)
-            } else {
-                Ok(())
-            }
-        }
+        Some(kept) => { if kept { Err(Why::NotSpare) } else { Ok(()) } }
     }
 }

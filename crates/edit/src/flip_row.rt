@@ -105,9 +105,11 @@ pub fn flip_fits(
     is_fresh(points, lower, fresh, from, to)?;
     let near = near_apex(points, lower, from);
     let far = far_apex(points, upper, from);
-    are_apexes(near, far, to)?;
-    match (near, far) {
-        (Some(k), Some(l)) => are_on_sides(points, from, k, l),
-        _ => unreachable!(),
+    match are_apexes(near, far, to) {
+        Err(why) => Err(why),
+        Ok(()) => match (near, far) {
+            (Some(k), Some(l)) => are_on_sides(points, from, k, l),
+            _ => unreachable!(),
+        },
     }
 }

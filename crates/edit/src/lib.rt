@@ -5,18 +5,15 @@
 
 mod covering;
 mod drop_row;
-mod fits;
+mod fitting;
 mod flip_row;
-mod follow;
+mod following;
 mod look;
 mod marks;
 mod plan;
 
-pub use fits::fits;
-pub use follow::follow;
+pub use fitting::fits;
+pub use following::follow;
 pub use journal_defs::{Claim, Edit, EditList, Why};
 pub use look::Look;
 pub use plan::{BadPlan, Plan};
-
-#[cfg(test)]
-mod tests;

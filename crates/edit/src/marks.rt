@@ -87,11 +87,9 @@ pub fn far_apex(points: &Points, upper: &Star, e: Pair) -> Option<u32>
 // The position of q where it is a kept neighbour, or none.
 fn kept_place(points: &Points, star: &Star, q: u32) -> Option<u32>
     requires { points.now ≡ star.now.points }
-    ensures {
-        MatchOption result
-            (¬ HasMark star.now q true)
-            (λ k. IsKept star.now.list k × ((entry star.now.list k).0 ≡ q))
-    }
+    ensures { MatchOption result
+        (¬ HasMark star.now q true)
+        (λ k. IsKept star.now.list k × ((entry star.now.list k).0 ≡ q)) }
 {
     let _degree = star.degree();
     let k = star.place(points, q)?;

@@ -1,4 +1,4 @@
--- Edits of a triangulation with kept segments: what they do, what they touch, when they are legal. (Textbook flip.)
+-- Edits of a triangulation with kept pairs: what they do, what they touch, when they are legal. (Textbook flip.)
 use Rattle.std.specs.Prelude.{◌≢◌, ℕ, ◌<◌, Bool, ◌||◌, nat_eq, List, [], ◌∷◌, ◌++◌, length}
 use Rattle.std.specs.List.{Contains}
 use Rattle.plane.specs.declared.coordinates.Point.{Point}
@@ -11,7 +11,7 @@ use Rattle.journal_defs.specs.declared.edit.Edit.{Edit}
 use Rattle.journal_defs.specs.declared.edit.Edit.TheVariants.{Drop, Keep, Flip}
 use Rattle.partition_defs.specs.Sets.{without, with_one}
 
--- a state: the segments, and those that are kept
+-- a state: the pairs, and those that are kept
 pub record State : Type 0 where
   pub all : List Pair
   pub kept : List Pair
@@ -22,17 +22,17 @@ after (Drop e) s = record { all = s.all; kept = without e s.kept }
 after (Keep e) s = record { all = s.all; kept = with_one e s.kept }
 after (Flip e f) s = record { all = with_one f (without e s.all); kept = s.kept }
 
--- e is kept, and without it the kept segments are a convex partition
+-- e is kept, and without it the kept pairs are a convex partition
 pub record IsLegalDrop (S : List Point) (s : State) (e : Pair) : Type 0 where
   pub kept : Contains s.kept e
   pub partition : IsConvexPartition S (without e s.kept)
 
--- e is spare: a segment that isn't kept
+-- e is spare: a pair that isn't kept
 pub record IsSpare (s : State) (e : Pair) : Type 0 where
   pub there : Contains s.all e
   pub spare : ¬ Contains s.kept e
 
--- e is spare, f is a clear pair of points that isn't a segment, and of the segments it crosses e alone
+-- e is spare, f is a clear pair of points that isn't a pair, and of the pairs it crosses e alone
 pub record IsLegalFlip (S : List Point) (s : State) (e f : Pair) : Type 0 where
   pub spare : IsSpare s e
   pub fresh : ¬ Contains s.all f
@@ -66,7 +66,7 @@ abbrev pub inverse_all : List Edit → List Edit
 inverse_all [] = []
 inverse_all (e ∷ es) = inverse_all es ++ inverse e ∷ []
 
--- both lists ascend, the segments triangulate the points, and the kept ones are a convex partition among them
+-- both lists ascend, the pairs triangulate the points, and the kept ones are a convex partition among them
 pub record IsSound (S : List Point) (s : State) : Type 0 where
   pub all_ascending : IsAscending s.all
   pub kept_ascending : IsAscending s.kept
@@ -74,7 +74,7 @@ pub record IsSound (S : List Point) (s : State) : Type 0 where
   pub partition : IsConvexPartition S s.kept
   pub among : (e : Pair) → Contains s.kept e → Contains s.all e
 
--- the states have the same segments and the same kept segments at v
+-- the states have the same pairs and the same kept pairs at v
 pub record AreAlikeAt (s t : State) (v : ℕ) : Type 0 where
   pub all : (w : ℕ) → (Joins s.all v w → Joins t.all v w) × (Joins t.all v w → Joins s.all v w)
   pub kept : (w : ℕ) → (Joins s.kept v w → Joins t.kept v w) × (Joins t.kept v w → Joins s.kept v w)

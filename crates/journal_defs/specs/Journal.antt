@@ -25,7 +25,7 @@ pub record IsFirstIllegal (S : List Point) (s : State) (edits : List Edit) (k : 
   pub at : slice_index_or edits k edit ≡ edit
   pub illegal : ¬ IsLegal S (after_all (take k edits) s) edit
 
--- all segments are kept at first
+-- all pairs are kept at first
 abbrev pub opening : List Pair → State
 opening start = record { all = start; kept = start }
 

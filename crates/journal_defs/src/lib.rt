@@ -1,4 +1,4 @@
-//! States of a triangulation with kept segments, the edits that change them, and journals of commits. Beside the
+//! States of a triangulation with kept pairs, the edits that change them, and journals of commits. Beside the
 //! definitions a plain slow program that replays a journal over lists and tests legality by all pairs and all points.
 #![tactic(auto)]
 

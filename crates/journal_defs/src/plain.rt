@@ -116,7 +116,7 @@ pub fn after_all(alloc: Global, edits: &[Edit], state: Lists) -> Result<Lists, N
     Ok(now)
 }
 
-/// The state in which all segments of a start are kept.
+/// The state in which all pairs of a start are kept.
 pub fn opening(alloc: Global, start: &[Pair]) -> Result<Lists, NoMemory>
     ensures { IfOk result (λ t. t ≡ opening_spec start.now) }
 {
@@ -202,7 +202,7 @@ fn can_flip(points: &Points, state: &Lists, e: Pair, f: Pair) -> bool
     crosses_alone(points, state.all(), f, e)
 }
 
-/// Whether all ends of segments are indices of points.
+/// Whether all ends of pairs are indices of points.
 pub fn is_within(points: &Points, state: &Lists) -> bool
     ensures { IsTrue result ↔ AreWithin points.now state.now.all }
 {

@@ -22,7 +22,7 @@ use Rattle.partition_defs.proofs.laws.Flips.{flip_of_quad, quad_of_flip, triangu
 use Rattle.journal_defs.proofs.laws.Flips.{flip_of_legal, legal_of_flip}
 use Rattle.journal_defs.proofs.laws.Journal.{legal_append, after_append}
 
--- each segment of K is one of L
+-- each pair of K is one of L
 abbrev pub IsAmong : (K L : List Pair) → Type 0
 IsAmong K L = (e : Pair) → Contains K e → Contains L e
 
@@ -44,7 +44,7 @@ drop_stays_illegal S K L e part sub gone =
     (λ f h. (contains_without e f K h).0)
     part.within part.clear part.plane
 
--- the kept segments without e meet all needs of v, where v is an inner point
+-- the kept pairs without e meet all needs of v, where v is an inner point
 abbrev pub StaysMetAt : List Point → List Pair → Pair → ℕ → Type 0
 StaysMetAt S K e v = IsInner S v → MeetsNeedsAt S (without e K) v
 
@@ -54,7 +54,7 @@ pub record CanGo (S : List Point) (K : List Pair) (e : Pair) : Type 0 where
   pub lower : StaysMetAt S K e e.lo
   pub upper : StaysMetAt S K e e.hi
 
--- a kept segment may go exactly by its two ends
+-- a kept pair may go exactly by its two ends
 pub gone_can : (S : List Point) (K : List Pair) (e : Pair) → e.hi < length S → IsConvexPartition S (without e K) → CanGo S K e
 gone_can S K e hi part = record {
   inside = λ b. (joins_without e K e.lo e.hi (part.border e.lo e.hi e.ordered hi b)).1 (inl (refl, refl));

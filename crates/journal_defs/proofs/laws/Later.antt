@@ -106,7 +106,7 @@ swept_stays S s (x ∷ pairs) dropped so (inr (illegal, swept)) e here = λ ther
   | inr k ↦ swept_stays S s pairs dropped so swept e k there
 ]
 
--- after a sweep through the kept segments none can go
+-- after a sweep through the kept pairs none can go
 pub swept_minimal : (S : List Point) (s : State) (dropped : List Pair) → IsSound S s → IsSwept S s s.kept dropped → IsMinimal S (after_all (as_drops dropped) s).kept
 swept_minimal S s dropped so swept e there = swept_stays S s s.kept dropped so swept e (has_of s.kept e (kept_falls dropped s e there)) there
 

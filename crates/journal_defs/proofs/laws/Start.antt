@@ -1,4 +1,4 @@
--- All segments of a triangulation kept: the state is sound, and so is each that a legal journal leads to.
+-- All pairs of a triangulation kept: the state is sound, and so is each that a legal journal leads to.
 use Rattle.std.proofs.Common.{List}
 use Rattle.plane.specs.declared.coordinates.Point.{Point}
 use Rattle.plane.specs.declared.segment.Pair.{Pair}

@@ -1,7 +1,8 @@
 -- What an edit does to the star of a vertex that it touches.
-use Rattle.std.proofs.Common.{◌≡◌, ◌≢◌, ℕ, ◌<◌, Bool, true, false, ◌||◌, nat_eq, List, length, pos, ◌⊎◌, ◌↔◌, inl, inr, arith, sym, ◌∙◌, ap, subst, refl}
+use Rattle.std.proofs.Common.{◌≡◌, ◌≢◌, ℕ, ◌+◌, ◌<◌, Bool, true, false, ◌||◌, nat_eq, List, length, pos, ◌⊎◌, ◌↔◌, inl, inr, arith, sym, ◌∙◌, ap, subst, refl}
 use Rattle.std.specs.List.{Contains}
 use Rattle.std.proofs.lemmas.Int.{ints}
+use Rattle.std.proofs.lemmas.Bool.{false≢true}
 use Rattle.std.proofs.lemmas.Bool.Decides.{Decides-eqb, Decides-or}
 use Rattle.plane.specs.declared.coordinates.Point.{Point}
 use Rattle.plane.specs.declared.segment.Pair.{Pair}
@@ -22,10 +23,13 @@ use Rattle.journal_defs.specs.declared.edit.Edit.{Edit}
 use Rattle.journal_defs.specs.declared.edit.Edit.TheVariants.{Drop, Keep, Flip}
 use Rattle.journal_defs.specs.Edits.{State, after, IsLegal, IsLegalDrop, IsSpare, IsLegalFlip, IsSound, is_end}
 use Rattle.journal_defs.specs.Neighbours.{star_list, list_after}
+use Rattle.edit.specs.Steps.{IsBefore, IsAfter}
 use Rattle.journal_defs.proofs.laws.Edits.{sound_after}
-use Rattle.journal_defs.proofs.laws.Table.{unmarked}
-use Rattle.journal_defs.proofs.laws.Turned.{directions_differ, joined_apart, star_is_value}
-use Rattle.journal_defs.proofs.laws.Follow.{end_below, star_follows}
+use Rattle.star.proofs.laws.Marks.{unmarked}
+use Rattle.star.proofs.laws.Directions.{directions_differ}
+use Rattle.journal_defs.proofs.laws.Turned.{joined_apart, star_is_value}
+use Rattle.journal_defs.proofs.laws.Follow.{star_follows}
+use Rattle.partition_defs.proofs.laws.Flips.{joins_in}
 
 -- the other end of a pair
 pub other_of : (e : Pair) (v : ℕ) → is_end e v ≡ true → (w : ℕ) × HasEnds e v w
@@ -115,7 +119,7 @@ flip_free S s e f v w a accepted sound legal so ends k hk together =
     let x = (entry a.list k).0 in
     let join : Joins s.all v x = (so.neighbours x).0 (k, (hk, refl)) in
     let own = end_within S f v w legal.within ends in
-    let inside : x < length S = end_below S s.all v x sound.triangulation join in
+    let inside : x < length S = joins_in S s.all sound.triangulation x v (join_back s.all v x join) in
     let other : x ≢ w = λ same. legal.fresh (joined_ends s.all f v w ends (subst (λ (y : ℕ). Joins s.all v y) same join)) in
     directions_differ S v x w accepted own.0 inside own.1 (joined_apart s.all v x join) own.2 other (clear_joined S s.all v x sound.triangulation join) (clear_ends S f v w ends legal.clear)
     (let P : List Point → Type 0 = λ Q. IsInDirection Q a.centre x w in
@@ -156,3 +160,72 @@ list_step S s e v a b accepted sound legal hv so to =
     star_is_value S (after e s) v b accepted (sound_after S s e sound legal) hv to
     ∙ sym (star_follows S s e v accepted sound legal hv)
     ∙ ap (λ (l : List (ℕ × Bool)). list_after S v e l) (sym (star_is_value S s v a accepted sound hv so))
+
+-- the centre of a star is a point
+centre_in : (S : List Point) (s : State) (a : Seen) → IsStarOf S s.all s.kept a.centre a → a.centre < length S
+centre_in S s a so = subst (λ (P : List Point). a.centre < length P) so.points so.star.centre
+
+-- a change of one mark leaves the rest
+marks_place : (a b : Seen) (w : ℕ) (m : Bool) → Marks a b w m → SamePlace a b × (b.spare ≡ a.spare)
+marks_place a b w m (k, stands, is) = ((ap (λ (x : Seen). x.centre) is, ap (λ (x : Seen). x.points) is), ap (λ (x : Seen). x.spare) is)
+
+pub drop_after : (S : List Point) (e : Pair) (a b : Seen) → AreAccepted S → IsBefore S (Drop e) a → (w : ℕ) × HasEnds e a.centre w × Marks a b w false → IsStar b → IsAfter S (Drop e) a b
+drop_after S e a b accepted (s, sound, legal, so) (w, ends, mark) star =
+    let (place, spare) = marks_place a b w false mark in
+    record {
+      star = λ t tsound tlegal tso. drop_star S t e a.centre w a b tso ends mark star;
+      list = list_step S s (Drop e) a.centre a b accepted sound legal (centre_in S s a so) so (drop_star S s e a.centre w a b so ends mark star);
+      place = place;
+      order = star;
+      room = λ h. omega (arith, spare);
+      room_left = omega (arith, spare);
+    }
+
+pub keep_after : (S : List Point) (e : Pair) (a b : Seen) → AreAccepted S → IsBefore S (Keep e) a → (w : ℕ) × HasEnds e a.centre w × Marks a b w true → IsStar b → IsAfter S (Keep e) a b
+keep_after S e a b accepted (s, sound, legal, so) (w, ends, mark) star =
+    let (place, spare) = marks_place a b w true mark in
+    record {
+      star = λ t tsound tlegal tso. keep_star S t e a.centre w a b tso ends mark star;
+      list = list_step S s (Keep e) a.centre a b accepted sound legal (centre_in S s a so) so (keep_star S s e a.centre w a b so ends mark star);
+      place = place;
+      order = star;
+      room = λ h. omega (arith, spare);
+      room_left = omega (arith, spare);
+    }
+
+pub left_after : (S : List Point) (e f : Pair) (a b : Seen) → AreAccepted S → IsBefore S (Flip e f) a → (w : ℕ) × HasEnds e a.centre w × Loses a b w → SamePlace a b → b.spare ≡ a.spare + 1 → IsStar b → IsAfter S (Flip e f) a b
+left_after S e f a b accepted (s, sound, legal, so) (w, ends, lost) place spare star = record {
+  star = λ t tsound tlegal tso. left_star S t e f a.centre w a b tlegal tso ends lost place star;
+  list = list_step S s (Flip e f) a.centre a b accepted sound legal (centre_in S s a so) so (left_star S s e f a.centre w a b legal so ends lost place star);
+  place = place;
+  order = star;
+  room = λ h. omega (arith, spare);
+  room_left = omega (arith, spare);
+}
+
+pub put_after : (S : List Point) (e f : Pair) (a b : Seen) → AreAccepted S → IsBefore S (Flip e f) a → (w : ℕ) × HasEnds f a.centre w × Gains a b w → SamePlace a b → b.spare + 1 ≡ a.spare → IsStar b → is_end f a.centre ≡ true
+    → IsAfter S (Flip e f) a b
+put_after S e f a b accepted (s, sound, legal, so) (w, ends, gained) place spare star at = record {
+  star = λ t tsound tlegal tso. put_star S t e f a.centre w a b tsound tlegal tso ends gained place star;
+  list = list_step S s (Flip e f) a.centre a b accepted sound legal (centre_in S s a so) so (put_star S s e f a.centre w a b sound legal so ends gained place star);
+  place = place;
+  order = star;
+  room = λ h. absurd (false≢true (sym h ∙ at));
+  room_left = omega (arith, spare);
+}
+
+-- what the step at an end wants of the star before
+pub before_marked : (S : List Point) (e : Pair) (a : Seen) → IsBefore S (Drop e) a → (w : ℕ) → HasEnds e a.centre w → HasMark a w true
+before_marked S e a (s, sound, legal, so) w ends = drop_marked S s e a.centre w a sound legal so ends
+
+pub before_unmarked : (S : List Point) (e : Pair) (a : Seen) → IsBefore S (Keep e) a → (w : ℕ) → HasEnds e a.centre w → HasMark a w false
+before_unmarked S e a (s, sound, legal, so) w ends = keep_unmarked S s e a.centre w a legal so ends
+
+pub before_there : (S : List Point) (e f : Pair) (a : Seen) → IsBefore S (Flip e f) a → (w : ℕ) → HasEnds e a.centre w → IsNeighbour a w
+before_there S e f a (s, sound, legal, so) w ends = flip_there S s e f a.centre w a legal so ends
+
+pub before_free : (S : List Point) (e f : Pair) (a : Seen) → AreAccepted S → IsBefore S (Flip e f) a → (w : ℕ) → HasEnds f a.centre w → IsFree a w
+before_free S e f a accepted (s, sound, legal, so) w ends = flip_free S s e f a.centre w a accepted sound legal so ends
+
+pub before_within : (S : List Point) (e f : Pair) (a : Seen) → IsBefore S (Flip e f) a → f.hi < length S
+before_within S e f a (s, sound, legal, so) = legal.within

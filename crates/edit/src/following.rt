@@ -1,65 +1,70 @@
 ghost use Rattle.std.specs.Prelude.{◌≡◌, ◌+◌, ◌<◌, ℕ, length, true, false};
 ghost use Rattle.partition_defs.specs.Partition.{HasEnds};
 ghost use Rattle.star.specs.Stars.{IsStar, IsNeighbour, HasMark, IsFree, Marks, Gains, Loses, SamePlace};
-ghost use Rattle.journal_defs.specs.Edits.{is_end as is_end_spec, touches};
+ghost use Rattle.journal_defs.specs.Edits.{is_end, touches};
 ghost use Rattle.edit.specs.Steps.{puts_in, IsBefore, IsAfter};
 
 use journal_defs::Edit;
 use plane::{Pair, Points};
 use star::Star;
 
-fn is_end(e: Pair, v: u32) -> bool
-    ensures { result ≡ is_end_spec e v }
+// Whether the centre is an end of the pair.
+fn is_at_end(star: &Star, e: Pair) -> bool
+    ensures { result ≡ is_end e star.now.centre }
 {
-    e.lo() == v || e.hi() == v
+    e.lo() == star.centre() || e.hi() == star.centre()
 }
 
-// The other end of a pair.
-fn other_end(e: Pair, v: u32) -> u32
-    requires { is_end_spec e v ≡ true }
-    ensures { HasEnds e v result }
+// The end of the pair that isn't the centre.
+fn other_end(star: &Star, e: Pair) -> u32
+    requires { is_end e star.now.centre ≡ true }
+    ensures { HasEnds e star.now.centre result }
 {
-    if e.lo() == v { e.hi() } else { e.lo() }
+    if e.lo() == star.centre() {
+        e.hi()
+    } else {
+        e.lo()
+    }
 }
 
 fn drop_end(points: &Points, star: &mut Star, e: Pair)
     requires points { points.now ≡ star.old.points }
-    requires end { is_end_spec e star.old.centre ≡ true }
+    requires end { is_end e star.old.centre ≡ true }
     requires kept { (w : ℕ) → HasEnds e star.old.centre w → HasMark star.old w true }
     ensures mark { (w : ℕ) × HasEnds e star.old.centre w × Marks star.old star.new w false }
     ensures order { IsStar star.new }
 {
-    let w = other_end(e, star.centre());
+    let w = other_end(star, e);
     star.drop_mark(points, w);
 }
 
 fn keep_end(points: &Points, star: &mut Star, e: Pair)
     requires points { points.now ≡ star.old.points }
-    requires end { is_end_spec e star.old.centre ≡ true }
+    requires end { is_end e star.old.centre ≡ true }
     requires spare { (w : ℕ) → HasEnds e star.old.centre w → HasMark star.old w false }
     ensures mark { (w : ℕ) × HasEnds e star.old.centre w × Marks star.old star.new w true }
     ensures order { IsStar star.new }
 {
-    let w = other_end(e, star.centre());
+    let w = other_end(star, e);
     star.keep_mark(points, w);
 }
 
 fn take_out_end(points: &Points, star: &mut Star, e: Pair)
     requires points { points.now ≡ star.old.points }
-    requires end { is_end_spec e star.old.centre ≡ true }
+    requires end { is_end e star.old.centre ≡ true }
     requires there { (w : ℕ) → HasEnds e star.old.centre w → IsNeighbour star.old w }
     ensures list { (w : ℕ) × HasEnds e star.old.centre w × Loses star.old star.new w }
     ensures spare { star.new.spare ≡ star.old.spare + 1 }
     ensures place { SamePlace star.old star.new }
     ensures order { IsStar star.new }
 {
-    let w = other_end(e, star.centre());
+    let w = other_end(star, e);
     star.remove(points, w);
 }
 
 fn put_in_end(points: &Points, star: &mut Star, f: Pair)
     requires points { points.now ≡ star.old.points }
-    requires end { is_end_spec f star.old.centre ≡ true }
+    requires end { is_end f star.old.centre ≡ true }
     requires within { f.hi < length points.now }
     requires room { 0 < star.old.spare }
     requires free { (w : ℕ) → HasEnds f star.old.centre w → IsFree star.old w }
@@ -68,13 +73,13 @@ fn put_in_end(points: &Points, star: &mut Star, f: Pair)
     ensures place { SamePlace star.old star.new }
     ensures order { IsStar star.new }
 {
-    let w = other_end(f, star.centre());
+    let w = other_end(star, f);
     star.insert(points, w);
 }
 
 fn follow_drop(points: &Points, star: &mut Star, e: Pair)
     requires points { points.now ≡ star.old.points }
-    requires end { is_end_spec e star.old.centre ≡ true }
+    requires end { is_end e star.old.centre ≡ true }
     requires legal { IsBefore points.now (Edit.Drop e) star.old }
     ensures { IsAfter points.now (Edit.Drop e) star.old star.new }
 {
@@ -84,7 +89,7 @@ fn follow_drop(points: &Points, star: &mut Star, e: Pair)
 
 fn follow_keep(points: &Points, star: &mut Star, e: Pair)
     requires points { points.now ≡ star.old.points }
-    requires end { is_end_spec e star.old.centre ≡ true }
+    requires end { is_end e star.old.centre ≡ true }
     requires legal { IsBefore points.now (Edit.Keep e) star.old }
     ensures { IsAfter points.now (Edit.Keep e) star.old star.new }
 {
@@ -94,13 +99,13 @@ fn follow_keep(points: &Points, star: &mut Star, e: Pair)
 
 fn follow_flip(points: &Points, star: &mut Star, from: Pair, to: Pair)
     requires points { points.now ≡ star.old.points }
-    requires end { is_end_spec from star.old.centre ≡ false → is_end_spec to star.old.centre ≡ true }
+    requires end { is_end from star.old.centre ≡ false → is_end to star.old.centre ≡ true }
     requires legal { IsBefore points.now (Edit.Flip from to) star.old }
-    requires room { is_end_spec to star.old.centre ≡ true → 0 < star.old.spare }
+    requires room { is_end to star.old.centre ≡ true → 0 < star.old.spare }
     ensures { IsAfter points.now (Edit.Flip from to) star.old star.new }
 {
     let _count = points.len();
-    if is_end(from, star.centre()) {
+    if is_at_end(star, from) {
         take_out_end(points, star, from);
     } else {
         put_in_end(points, star, to);

@@ -10,7 +10,7 @@ use plane::{Pair, Points};
 use star::{Star, Stars};
 
 // The star of the pair's smaller end.
-fn lower_star<S: Stars>(points: &Points, stars: &S, e: Pair) -> &Star
+fn lower_star<'a, S: Stars>(points: &Points, stars: &'a S, e: Pair) -> &'a Star
     requires some { IsSome (S.star_of stars.now e.lo) }
     requires at { IsAt points.now (seen_of (S.star_of stars.now) e.lo) e.lo }
     ensures star { result.now ≡ seen_of (S.star_of stars.now) e.lo }
@@ -20,7 +20,7 @@ fn lower_star<S: Stars>(points: &Points, stars: &S, e: Pair) -> &Star
 }
 
 // The star of the pair's larger end.
-fn upper_star<S: Stars>(points: &Points, stars: &S, e: Pair) -> &Star
+fn upper_star<'a, S: Stars>(points: &Points, stars: &'a S, e: Pair) -> &'a Star
     requires some { IsSome (S.star_of stars.now e.hi) }
     requires at { IsAt points.now (seen_of (S.star_of stars.now) e.hi) e.hi }
     ensures star { result.now ≡ seen_of (S.star_of stars.now) e.hi }

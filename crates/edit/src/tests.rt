@@ -1,4 +1,0 @@
-mod plans;
-mod round;
-mod table;
-mod walk;

@@ -4,3 +4,4 @@ pub mod Results
 pub mod Commands
 pub mod Complete
 pub mod Written
+pub mod LineFaults

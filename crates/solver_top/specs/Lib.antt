@@ -4,3 +4,4 @@ pub mod Statuses
 pub mod Bundles
 pub mod Answers
 pub mod Reading
+pub mod WordFaults

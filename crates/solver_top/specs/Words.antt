@@ -1,5 +1,5 @@
 -- The words of the command line, and the lines that they may form. (This project's own.)
-use Rattle.std.specs.Prelude.{◌≡◌, ℕ, ◌+◌, ◌<◌, ◌≤◌, ◌^◌, List, [], ◌∷◌, length, take, map, codes, String, string_bytes, ◌⊎◌}
+use Rattle.std.specs.Prelude.{◌≡◌, ℕ, ◌+◌, ◌<◌, ◌≤◌, ◌^◌, List, [], ◌∷◌, length, take, map, codes, String, string_bytes, bytes_eq, MatchBool, ◌⊎◌}
 use Rattle.std.specs.Fmt.{decimal}
 use Rattle.std.specs.declared.alloc.Global.{Global}
 use Rattle.generator.specs.declared.kinds.Kind.{Kind}
@@ -20,28 +20,24 @@ IsCount word = (n : ℕ) × (3 ≤ n) × (n ≤ 5000) × (word ≡ decimal n)
 abbrev pub IsSeed : List ℕ → Type 0
 IsSeed word = (seed : ℕ) × (seed < 2 ^ 64) × (word ≡ decimal seed)
 
-abbrev pub Is : List ℕ → List ℕ → Type 0
-Is expected word = word ≡ expected
-
--- the lines: `judge`, `start`, and `gen KIND N SEED`
-abbrev pub judge_line : List (List ℕ → Type 0)
-judge_line = Is (codes "judge") ∷ []
-
-abbrev pub start_line : List (List ℕ → Type 0)
-start_line = Is (codes "start") ∷ []
-
-abbrev pub gen_line : List (List ℕ → Type 0)
-gen_line = Is (codes "gen") ∷ IsKind ∷ IsCount ∷ IsSeed ∷ []
-
--- the words begin a line
+-- the words begin with what a line may have, each at its place
 abbrev pub Begins : List (List ℕ → Type 0) → List (List ℕ) → Type 0
 Begins line [] = Unit {0}
 Begins [] (word ∷ words) = ⊥
 Begins (May ∷ line) (word ∷ words) = May word × Begins line words
 
+-- what holds of the words behind a first word, by what its lines may have there: the lines are `judge`, `start`, and
+-- `gen KIND N SEED`
+abbrev pub OfALine : (List (List ℕ → Type 0) → List (List ℕ) → Type 0) → List ℕ → List (List ℕ) → Type 0
+OfALine Holds first words =
+    MatchBool (bytes_eq first (codes "judge")) (Holds [] words)
+    (MatchBool (bytes_eq first (codes "start")) (Holds [] words)
+    (MatchBool (bytes_eq first (codes "gen")) (Holds (IsKind ∷ IsCount ∷ IsSeed ∷ []) words) ⊥))
+
 -- the words begin some line
 abbrev pub BeginsALine : List (List ℕ) → Type 0
-BeginsALine words = Begins judge_line words ⊎ (Begins start_line words ⊎ Begins gen_line words)
+BeginsALine [] = Unit {0}
+BeginsALine (first ∷ words) = OfALine Begins first words
 
 -- the words are the line of this command
 abbrev pub IsLineOf : List (List ℕ) → Command → Type 0

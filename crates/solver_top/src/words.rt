@@ -4,6 +4,7 @@ ghost use Rattle.std.specs.Fmt.{decimal};
 ghost use Rattle.generator.specs.Names.{kind_word};
 ghost use Rattle.solver_top.specs.Answers.{reads_input};
 ghost use Rattle.solver_top.specs.Words.{words_of, IsLineOf, IsFaultAt, IsCount};
+ghost use Rattle.solver_top.specs.WordFaults.{IsLineFaultAt};
 
 use generator::Kind;
 use itoa::Buffer;
@@ -75,6 +76,14 @@ pub fn read_words(words: &[String]) -> Result<Command, usize>
     ensures ok { IfOk result (IsLineOf (words_of words.now)) }
     ensures err { IfErr result (IsFaultAt (words_of words.now)) }
 {
+    by_first_word(words)
+}
+
+// The command of the words, by the first of them.
+fn by_first_word(words: &[String]) -> Result<Command, usize>
+    ensures ok { IfOk result (IsLineOf (words_of words.now)) }
+    ensures err { IfErr result (IsLineFaultAt (words_of words.now)) }
+{
     match words {
         [] => Err(0),
         [first, rest @ ..] => match first.as_str() {
@@ -89,7 +98,7 @@ pub fn read_words(words: &[String]) -> Result<Command, usize>
 // What stands behind `judge`.
 fn after_judge(rest: &[String]) -> Result<Command, usize>
     ensures ok { IfOk result (IsLineOf (codes "judge" ∷ words_of rest.now)) }
-    ensures err { IfErr result (IsFaultAt (codes "judge" ∷ words_of rest.now)) }
+    ensures err { IfErr result (IsLineFaultAt (codes "judge" ∷ words_of rest.now)) }
 {
     if rest.is_empty() {
         Ok(Command::Judge)
@@ -101,7 +110,7 @@ fn after_judge(rest: &[String]) -> Result<Command, usize>
 // What stands behind `start`.
 fn after_start(rest: &[String]) -> Result<Command, usize>
     ensures ok { IfOk result (IsLineOf (codes "start" ∷ words_of rest.now)) }
-    ensures err { IfErr result (IsFaultAt (codes "start" ∷ words_of rest.now)) }
+    ensures err { IfErr result (IsLineFaultAt (codes "start" ∷ words_of rest.now)) }
 {
     if rest.is_empty() {
         Ok(Command::Start)
@@ -113,7 +122,7 @@ fn after_start(rest: &[String]) -> Result<Command, usize>
 // What stands behind `gen`.
 fn after_gen(rest: &[String]) -> Result<Command, usize>
     ensures ok { IfOk result (IsLineOf (codes "gen" ∷ words_of rest.now)) }
-    ensures err { IfErr result (IsFaultAt (codes "gen" ∷ words_of rest.now)) }
+    ensures err { IfErr result (IsLineFaultAt (codes "gen" ∷ words_of rest.now)) }
 {
     match rest {
         [] => Err(1),
@@ -127,7 +136,7 @@ fn after_gen(rest: &[String]) -> Result<Command, usize>
 // What stands behind `gen KIND`.
 fn after_kind(kind: Kind, rest: &[String]) -> Result<Command, usize>
     ensures ok { IfOk result (IsLineOf (codes "gen" ∷ kind_word kind ∷ words_of rest.now)) }
-    ensures err { IfErr result (IsFaultAt (codes "gen" ∷ kind_word kind ∷ words_of rest.now)) }
+    ensures err { IfErr result (IsLineFaultAt (codes "gen" ∷ kind_word kind ∷ words_of rest.now)) }
 {
     match rest {
         [] => Err(2),
@@ -153,7 +162,7 @@ fn after_count(kind: Kind, n: u32, rest: &[String]) -> Result<Command, usize>
     requires least { 3 ≤ n }
     requires most { n ≤ 5000 }
     ensures ok { IfOk result (IsLineOf (codes "gen" ∷ kind_word kind ∷ decimal n ∷ words_of rest.now)) }
-    ensures err { IfErr result (IsFaultAt (codes "gen" ∷ kind_word kind ∷ decimal n ∷ words_of rest.now)) }
+    ensures err { IfErr result (IsLineFaultAt (codes "gen" ∷ kind_word kind ∷ decimal n ∷ words_of rest.now)) }
 {
     match rest {
         [] => Err(3),
@@ -169,7 +178,7 @@ fn after_seed(kind: Kind, n: u32, seed: u64, rest: &[String]) -> Result<Command,
     requires least { 3 ≤ n }
     requires most { n ≤ 5000 }
     ensures ok { IfOk result (IsLineOf (codes "gen" ∷ kind_word kind ∷ decimal n ∷ decimal seed ∷ words_of rest.now)) }
-    ensures err { IfErr result (IsFaultAt (codes "gen" ∷ kind_word kind ∷ decimal n ∷ decimal seed ∷ words_of rest.now)) }
+    ensures err { IfErr result (IsLineFaultAt (codes "gen" ∷ kind_word kind ∷ decimal n ∷ decimal seed ∷ words_of rest.now)) }
 {
     if rest.is_empty() {
         Ok(Command::Gen { kind, n, seed })

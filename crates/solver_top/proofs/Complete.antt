@@ -1,18 +1,13 @@
 -- Words that are a line, and an input that has its reading, are answered by Done or No.
-use Rattle.std.proofs.Common.{◌≡◌, ◌≢◌, ℕ, ◌≤◌, List, [], ◌∷◌, length, map, codes, Option, Result, Ok, ◌⊎◌, inl, inr, refl, arith, sym, ◌∙◌, ap, subst, ℤ, get_or}
+use Rattle.std.proofs.Common.{◌≡◌, ℕ, ◌≤◌, List, length, map, Option, Result, Ok, ◌⊎◌, inl, inr, refl, arith, sym, ◌∙◌, ap, subst}
 use Rattle.serde_json.specs.Data.{Data}
 use Rattle.plane.specs.declared.coordinates.Point.{Point}
-use Rattle.plane.specs.declared.coordinates.BadPoints.{BadPoints}
-use Rattle.plane.specs.declared.coordinates.BadPoints.TheVariants.{TooFew, TooMany, TooFar, SamePlace, OneLine}
 use Rattle.plane.specs.declared.segment.Pair.{Pair}
-use Rattle.plane.specs.Accepted.{AreAccepted, IsFault}
-use Rattle.std.proofs.lemmas.List.{length-map}
-use Rattle.text_defs.specs.Instances.{instance_in, instance_from, Fault}
+use Rattle.plane.specs.Accepted.{AreAccepted}
+use Rattle.text_defs.specs.Instances.{instance_in, instance_from}
 use Rattle.text_defs.specs.Solutions.{edges_in}
 use Rattle.text_defs.specs.Solutions as edges
 use Rattle.text_defs.specs.Bundles as bundle
-use Rattle.instance_io.specs.declared.instances.Instance.{Instance}
-use Rattle.instance_io.specs.declared.instances.InstanceFault.{InstanceFault}
 use Rattle.cost_defs.specs.Costs.{Costed}
 use Rattle.instance_io.specs.Refusal.{Gives, HasFault, ends}
 use Rattle.json_text.proofs.Laws.{ok_same, ok_err}
@@ -32,9 +27,11 @@ use Rattle.solver_top.specs.declared.refusals.BundleFault.TheVariants.{NotJson, 
 use Rattle.solver_top.specs.declared.refusals.Refusal.{Refusal}
 use Rattle.solver_top.specs.declared.refusals.Refusal.TheVariants.{Bundle, Instance as OfInstance, Solution}
 use Rattle.solver_top.specs.Words.{IsLineOf}
-use Rattle.solver_top.proofs.Commands.{line_command_same}
-use Rattle.solver_top.specs.Bundles.{HasParts, HasBundle, HasRefusal, HasBundleFault, IsNamed, IsNamedSolution}
-use Rattle.solver_top.specs.Answers.{IsAnswer, IsAnswerOf, IsJudged, IsStarted, IsTooLong, HasInput, IsRefused, IsRefusedInstance, most_input}
+use Rattle.solver_top.proofs.LineCommands.{line_command_same}
+use Rattle.solver_top.specs.Bundles.{HasParts, HasBundle, HasRefusal, HasBundleFault, IsNamedSolution}
+use Rattle.solver_top.specs.Answers.{IsAnswer, IsAnswerOf, IsTooLong, HasInput, most_input}
+use Rattle.solver_top.specs.Judging.{IsJudged, IsRefused}
+use Rattle.solver_top.specs.Starting.{IsStarted, IsRefusedInstance}
 
 parts_same : (input : List ℕ) (a b c d : Data) → HasParts input a b → HasParts input c d → (a ≡ c) × (b ≡ d)
 parts_same input a b c d h k =

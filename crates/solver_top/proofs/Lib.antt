@@ -1,7 +1,7 @@
 pub mod Numbers
 pub mod Within
 pub mod Results
-pub mod Commands
+pub mod LineCommands
 pub mod Complete
 pub mod Written
 pub mod LineFaults

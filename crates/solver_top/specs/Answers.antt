@@ -1,68 +1,27 @@
 -- What the program answers to its words and its input: a verdict and a text. (This project's own.)
-use Rattle.std.specs.Prelude.{◌≡◌, ◌≢◌, ℕ, ◌+◌, ◌≤◌, List, [], ◌++◌, length, map, codes, ◌⊎◌, Some, Bool, true, false}
+use Rattle.std.specs.Prelude.{◌≡◌, ℕ, ◌+◌, ◌≤◌, List, [], length, codes, ◌⊎◌, Some, Bool, true, false}
 use Rattle.std.specs.declared.option.Option.{Option}
 use Rattle.mcp_outside.specs.Bytes.{Took}
 use Rattle.plane.specs.declared.coordinates.Point.{Point}
 use Rattle.plane.specs.declared.segment.Pair.{Pair}
-use Rattle.partition_defs.specs.Partition.{IsConvexPartition}
-use Rattle.partition_defs.specs.Triangulation.{AreDistinct}
-use Rattle.cp_judge.specs.declared.answer.Judgement.{Judgement}
-use Rattle.cp_judge.specs.declared.answer.Judgement.TheVariants.{Convex}
-use Rattle.cp_judge.specs.Judgement.{IsJudgement}
 use Rattle.plane.specs.Accepted.{AreAccepted}
-use Rattle.triangulate.specs.Start.{IsSortedStart}
-use Rattle.instance_io.specs.declared.instances.InstanceFault.{InstanceFault}
-use Rattle.instance_io.specs.Refusal.{coordinates, ends, Gives, HasFault}
 use Rattle.cost_defs.specs.Costs.{Costed}
 use Rattle.text_defs.specs.Instances.{instance_from}
-use Rattle.text_defs.specs.Texts.{instance_text, solution_text}
-use Rattle.generator.specs.declared.kinds.Kind.{Kind}
-use Rattle.generator.specs.Kinds.{AreMade}
-use Rattle.generator.specs.Names.{made_name}
+use Rattle.instance_io.specs.Refusal.{Gives}
 use Rattle.solver_top.specs.declared.words.Command.{Command}
 use Rattle.solver_top.specs.declared.words.Command.TheVariants.{Judge, Start, Gen}
 use Rattle.solver_top.specs.declared.status.Verdict.{Verdict}
-use Rattle.solver_top.specs.declared.status.Verdict.TheVariants.{Done, No, Usage, Refused}
-use Rattle.solver_top.specs.declared.refusals.Refusal.{Refusal}
+use Rattle.solver_top.specs.declared.status.Verdict.TheVariants.{Done, Usage, Refused}
 use Rattle.solver_top.specs.Words.{IsLineOf, IsFaultAt}
-use Rattle.solver_top.specs.Lines.{usage_line, judgement_line}
-use Rattle.solver_top.specs.Bundles.{HasBundle, HasRefusal, IsNamed, refusal_line}
-use Rattle.solver_top.specs.declared.refusals.Refusal.TheVariants.{Instance}
+use Rattle.solver_top.specs.Lines.{usage_line}
+use Rattle.solver_top.specs.Bundles.{HasBundle}
+use Rattle.solver_top.specs.Judging.{IsJudged}
+use Rattle.solver_top.specs.Starting.{IsStarted}
+use Rattle.solver_top.specs.Generating.{IsGenerated}
 
 -- the greatest input, in bytes
 abbrev pub most_input : ℕ
 most_input = 33554432
-
--- the first refusal of an input, printed
-abbrev pub IsRefused : List ℕ → List ℕ → Type 0
-IsRefused input text = (refusal : Refusal) × HasRefusal input refusal × (text ≡ refusal_line refusal)
-
--- the judgement on the bundle of an input, printed: convex exactly at Done
-abbrev pub IsJudged : List ℕ → Verdict → List ℕ → Type 0
-IsJudged input Done text = (S : List Point) × (K : List Pair) × HasBundle input S K
-    × AreDistinct K × IsConvexPartition S K × (text ≡ judgement_line (Convex (length K)))
-IsJudged input No text = (S : List Point) × (K : List Pair) × (j : Judgement) × HasBundle input S K
-    × IsJudgement S K j × (j ≢ Convex (length K)) × (text ≡ judgement_line j)
-IsJudged input Usage text = ⊥
-IsJudged input Refused text = IsRefused input text
-
--- the refusal of an instance, printed
-abbrev pub IsRefusedInstance : List ℕ → List ℕ → Type 0
-IsRefusedInstance input text = (fault : InstanceFault) × IsNamed fault × HasFault (instance_from input) fault
-    × (text ≡ refusal_line (Instance fault))
-
--- the sweep triangulation of the instance that an input is: exactly the sweep pairs, ascending, under the instance's name
-abbrev pub IsStarted : List ℕ → Verdict → List ℕ → Type 0
-IsStarted input Done text = (name : List ℕ) × (S : List Point) × (D : List Costed) × (T : List Pair)
-    × Gives (instance_from input) name S D × AreAccepted S × IsSortedStart S T × (text ≡ solution_text name (map ends T) ++ codes "\n")
-IsStarted input No text = ⊥
-IsStarted input Usage text = ⊥
-IsStarted input Refused text = IsRefusedInstance input text
-
--- the instance made from a number, and an LF
-abbrev pub IsGenerated : Kind → (n seed : ℕ) → List ℕ → Type 0
-IsGenerated kind n seed text = (S : List Point) × AreMade kind n seed S
-    × (text ≡ instance_text [] (made_name kind n seed) (map coordinates S) ++ codes "\n")
 
 -- an input that is too long is refused before all else, one byte past the limit
 abbrev pub IsTooLong : List ℕ → Option (List ℕ) → Verdict → List ℕ → Type 0

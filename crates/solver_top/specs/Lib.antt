@@ -2,6 +2,9 @@ pub mod Words
 pub mod Lines
 pub mod Statuses
 pub mod Bundles
+pub mod Judging
+pub mod Starting
+pub mod Generating
 pub mod Answers
 pub mod Reading
 pub mod WordFaults

@@ -1,7 +1,9 @@
 // Laws over the definitions, as clauses of calls that do nothing.
 ghost use Rattle.std.specs.Prelude.{◌≡◌, ℕ, List};
 ghost use Rattle.solver_top.specs.Words.{IsLineOf};
-ghost use Rattle.solver_top.specs.Answers.{HasInput, IsRefused, IsRefusedInstance};
+ghost use Rattle.solver_top.specs.Answers.{HasInput};
+ghost use Rattle.solver_top.specs.Judging.{IsRefused};
+ghost use Rattle.solver_top.specs.Starting.{IsRefusedInstance};
 
 use crate::words::Command;
 

@@ -4,24 +4,22 @@
 mod answers;
 mod arguments;
 mod bundles;
-mod generating;
-mod judging;
+mod commands;
 pub mod laws;
 mod lines;
 mod refusals;
 mod running;
-mod starting;
 mod status;
 mod words;
 
 pub use answers::Answer;
 pub use arguments::words_after_name;
 pub use bundles::{Bundle, read_bundle};
-pub use generating::generated;
-pub use judging::judged;
+pub use commands::generating::generated;
+pub use commands::judging::judged;
+pub use commands::starting::started;
 pub use refusals::{BundleFault, Refusal, Unread};
 pub use running::{MOST_INPUT, run};
-pub use starting::started;
 pub use status::{NO_WORDS, Status, Verdict};
 pub use words::{Command, read_words};
 

@@ -12,6 +12,9 @@ const SQUARE: &str =
 const SQUARE_WITH_A_FRACTION: &str =
     r#"{"instance":{"name":"sq","points":[{"x":0,"y":0},{"x":0,"y":4.0},{"x":4,"y":0},{"x":4,"y":4}]},"solution":{"edges":["#;
 
+const SQUARE_WITH_COSTS: &str =
+    r#"{"instance":{"costs":[[0,3,0],[2,1,1000]],"name":"sq","points":[{"x":0,"y":0},{"x":0,"y":4},{"x":4,"y":0},{"x":4,"y":4}]},"solution":{"edges":["#;
+
 const SAME_PLACE: &str =
     r#"{"instance":{"name":"sq","points":[{"x":0,"y":0},{"x":0,"y":4},{"x":4,"y":0},{"x":0,"y":0}]},"solution":{"edges":["#;
 
@@ -100,6 +103,11 @@ fn judges_what_it_reads(rt: HostRuntime) -> Result<(), Fail> {
             Input::Bundle(SQUARE_WITH_A_FRACTION, "01 20 13 23"),
             Status::Done,
             "convex partition 4 segments\n",
+        ),
+        (
+            Input::Bundle(SQUARE_WITH_COSTS, "01 20 13 23 03"),
+            Status::Done,
+            "convex partition 5 segments\n",
         ),
         (
             Input::Bundle(CENTRED, "01 02 13 23 14 24"),
@@ -202,6 +210,13 @@ fn reads_its_words(rt: HostRuntime) -> Result<(), Fail> {
         ),
         ("gen grid 3", Status::Usage, "usage 3\n"),
         ("gen grid 3 1 1", Status::Usage, "usage 4\n"),
+        ("gen wide 3", Status::Usage, "usage 3\n"),
+        ("gen wide 2 1", Status::Usage, "usage 2\n"),
+        (
+            "gen wide 3 1",
+            Status::Done,
+            "{\"name\":\"wide-3-1\",\"points\":[{\"i\":0,\"x\":0,\"y\":0},{\"i\":1,\"x\":1099511627776,\"y\":68719476736},{\"i\":2,\"x\":2199023255552,\"y\":274877906944}]}\n",
+        ),
         (
             "gen ring 3 5",
             Status::Done,

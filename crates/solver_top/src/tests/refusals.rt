@@ -39,6 +39,30 @@ fn start_tells_each_fault_of_an_instance(rt: HostRuntime) -> Result<(), Fail> {
             "{\"name\":\"w\",\"points\":[{\"i\":2,\"x\":1,\"y\":0},{\"i\":1,\"x\":1,\"y\":1}]}",
             "BadIndex 0",
         ),
+        (
+            "{\"costs\":7,\"name\":\"w\",\"points\":[{\"x\":0,\"y\":0},{\"x\":0,\"y\":4},{\"x\":4,\"y\":0}]}",
+            "BadCosts",
+        ),
+        (
+            "{\"costs\":[[0,1,1001]],\"name\":\"w\",\"points\":[{\"x\":0,\"y\":0},{\"x\":0,\"y\":4},{\"x\":4,\"y\":0}]}",
+            "BadCost 0",
+        ),
+        (
+            "{\"costs\":[[0,1,2],[1,0,3]],\"name\":\"w\",\"points\":[{\"x\":0,\"y\":0},{\"x\":0,\"y\":4},{\"x\":4,\"y\":0}]}",
+            "BadCost 1",
+        ),
+        (
+            "{\"costs\":[[0,1,1],[1,0,3]],\"name\":\"w\",\"points\":[{\"x\":0,\"y\":0},{\"x\":0,\"y\":4},{\"x\":4,\"y\":0}]}",
+            "BadCost 1",
+        ),
+        (
+            "{\"costs\":[[0,1,2],[0,3,2]],\"name\":\"w\",\"points\":[{\"x\":0,\"y\":0},{\"x\":0,\"y\":4},{\"x\":4,\"y\":0}]}",
+            "BadCost 1",
+        ),
+        (
+            "{\"costs\":[[0,1]],\"name\":\"w\",\"points\":[{\"x\":0,\"y\":0},{\"x\":0,\"y\":4},{\"x\":4,\"y\":0}]}",
+            "BadCost 0",
+        ),
     ];
     for (text, fault) in cases {
         let input = Vec::from_slice(rt.alloc(), text.as_bytes())?;
@@ -70,11 +94,15 @@ fn repeated(
     Ok(text.into_bytes())
 }
 
-// The greatest inputs, and one more: levels, a name's bytes, points, edges. What passes a limit meets the fault behind it.
+// The greatest inputs, and one more: levels, a name's bytes, points, segments, costs. What passes a limit meets the fault behind it.
 #[test]
 fn each_limit_is_exact(rt: HostRuntime) -> Result<(), Fail> {
     let (point, pair) = ("{\"x\":0,\"y\":0}", "{\"i\":0,\"j\":1}");
     let (named, points) = ("{\"name\":\"", "{\"name\":\"w\",\"points\":[");
+    let (cost, costs) = (
+        "[0,1,2]",
+        "{\"name\":\"w\",\"points\":[{\"x\":0,\"y\":0},{\"x\":0,\"y\":4},{\"x\":4,\"y\":0}],\"costs\":[",
+    );
     let closing = "]]]]]]]]]]]]]]]]]]]]]]]]]]]]]]]]]]]]]]]]]]]]]]]]]]]]]]]]]]]]]]]]";
     let cases = [
         (
@@ -148,6 +176,24 @@ fn each_limit_is_exact(rt: HostRuntime) -> Result<(), Fail> {
             20_001,
             "]}}",
             "refused solution TooManyEdges 20001\n",
+        ),
+        (
+            "start",
+            costs,
+            cost,
+            ",",
+            300_000,
+            "]}",
+            "refused instance BadCost 1\n",
+        ),
+        (
+            "start",
+            costs,
+            cost,
+            ",",
+            300_001,
+            "]}",
+            "refused instance TooManyCosts 300001\n",
         ),
     ];
     for (line, front, item, separator, count, back, text) in cases {

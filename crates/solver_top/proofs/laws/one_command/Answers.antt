@@ -1,4 +1,4 @@
-use Rattle.solver_top.proofs.Commands.{line_command_same}
+use Rattle.solver_top.proofs.LineCommands.{line_command_same}
 use Rattle.solver_top.proofs.laws.one_command.Goals as goal
 
 pub returns : goal.returns

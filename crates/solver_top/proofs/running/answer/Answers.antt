@@ -1,6 +1,6 @@
 use Rattle.std.proofs.Common.{inr, ap, ◌∙◌}
 use Rattle.solver_top.proofs.Results.{if_ok}
-use Rattle.solver_top.proofs.Commands.{line_command_same, answer_to_same, answer_of_same}
+use Rattle.solver_top.proofs.LineCommands.{line_command_same, answer_to_same, answer_of_same}
 use Rattle.solver_top.specs.Answers.{reads_input}
 use Rattle.solver_top.proofs.running.answer.Goals as goal
 

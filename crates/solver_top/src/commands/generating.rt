@@ -1,6 +1,6 @@
 // The command `gen`.
 ghost use Rattle.std.specs.Prelude.{◌≡◌, ◌≤◌, IfOk};
-ghost use Rattle.solver_top.specs.Answers.{IsGenerated};
+ghost use Rattle.solver_top.specs.Generating.{IsGenerated};
 
 use crate::answers::Answer;
 use crate::status::Verdict;

@@ -2,7 +2,7 @@
 ghost use Rattle.std.specs.Prelude.{◌≡◌, ◌≢◌, IfOk};
 ghost use Rattle.text_defs.specs.Instances.{instance_from};
 ghost use Rattle.instance_io.specs.Refusal.{Gives, HasFault};
-ghost use Rattle.solver_top.specs.Answers.{IsStarted};
+ghost use Rattle.solver_top.specs.Starting.{IsStarted};
 
 use crate::answers::Answer;
 use crate::lines::refusal_line;

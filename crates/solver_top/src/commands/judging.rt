@@ -2,7 +2,7 @@
 ghost use Rattle.std.specs.Prelude.{◌≡◌, ◌<◌, ◌^◌, length, IfOk};
 ghost use Rattle.partition_defs.specs.Partition.{AreWithin};
 ghost use Rattle.solver_top.specs.Bundles.{HasBundle, HasRefusal, refusal_line};
-ghost use Rattle.solver_top.specs.Answers.{IsJudged};
+ghost use Rattle.solver_top.specs.Judging.{IsJudged};
 
 use crate::answers::Answer;
 use crate::bundles::{Bundle, read_bundle};

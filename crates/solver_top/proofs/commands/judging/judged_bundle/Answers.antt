@@ -2,7 +2,7 @@ use Rattle.std.proofs.Common.{◌<◌, ◌^◌, List, length, sym, subst}
 use Rattle.plane.specs.declared.segment.Pair.{Pair}
 use Rattle.partition_defs.specs.Partition.{AreWithin}
 use Rattle.solver_top.proofs.Within.{solution_within}
-use Rattle.solver_top.proofs.judging.judged_bundle.Goals as goal
+use Rattle.solver_top.proofs.commands.judging.judged_bundle.Goals as goal
 
 pub judge-judgement-requires-clause-within : goal.judge-judgement-requires-clause-within
 judge-judgement-requires-clause-within c =

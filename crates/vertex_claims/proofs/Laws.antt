@@ -1,10 +1,11 @@
--- A holder may cross threads where its cells may.
+-- What may cross threads: a holder may go to another one, and claims may be shared, where the cells may.
 use denote.RattleType.{RattleType}
 use denote.Param.Send.{IsSend, sendable, view_send}
 use Rattle.atomic_table.proofs.shared.Seat.TheSendSync.{the_send as seat_send}
 use Rattle.vertex_claims.specs.declared.holding.Held.{Ghosts}
 use Rattle.vertex_claims.specs.contracts.holding.Holder.{the_row}
 use Rattle.vertex_claims.specs.contracts.holding.Holder.TheInside as Inside
+pub use Rattle.vertex_claims.proofs.holding.Claims.TheSendSync.{the_send as claims_send, the_sync as claims_sync}
 
 pub holder_send : (C R : RattleType) (g : Ghosts C.Denot R.Denot) → IsSend C → IsSend (the_row C R g)
 holder_send C R g s =

@@ -1,5 +1,5 @@
 -- What the kept answers say.
-use Rattle.std.proofs.Common.{◌≡◌, ℕ, ◌<◌, Bool, true, false, List, [], length, set, ◌⊎◌, inl, inr, ◌↔◌, IsTrue, arith, sym, ◌∙◌, subst, refl}
+use Rattle.std.proofs.Common.{◌≡◌, ℕ, ◌<◌, Bool, true, false, List, [], length, set, ◌⊎◌, inl, inr, ◌↔◌, ◌||◌, IsTrue, arith, sym, ◌∙◌, subst, refl}
 use Rattle.std.proofs.lemmas.Bool.{false≢true}
 use Rattle.plane.specs.declared.coordinates.Point.{Point}
 use Rattle.plane.specs.Accepted.{AreAccepted}
@@ -36,21 +36,26 @@ missed_with_small_gap S c list new w k a b ok wo so before after answer small =
     let m = missed_without_mark S c new list k a b ok so wo before after in
     (λ t. elim (m.0 (answer.0 t)) [ inl g ↦ g | inr g ↦ absurd (small g) ], λ h. answer.1 (m.1 (inl h)))
 
--- the answers, where some need is missed and where none is
-pub answer_wide : (S : List Point) (c : ℕ) (list : List (ℕ × Bool)) (links : List Link) (w : Bool) (k : ℕ) → HasRightLinks S c list links w → IsKept list k → w ≡ true → IsTrue w ↔ MissesWithoutPlace S c list k
-answer_wide S c list links w k ar kk e =
-    let r = ar.right k kk in
-    let m = missed_without_one S c list k r.first r.second ar.accepted ar.order kk r.before r.after in
-    (λ t. m.1 (inl (ar.wide.0 t)), λ h. e)
+-- without a kept position some need is missed where one is missed already, or where its own link says so
+pub opens_answer : (S : List Point) (c : ℕ) (list : List (ℕ × Bool)) (links : List Link) (w : Bool) (k : ℕ) (b : Bool) → HasRightLinks S c list links w → IsKept list k → b ≡ (w || (link links k).opens) → IsTrue b ↔ MissesWithoutPlace S c list k
+opens_answer S c list links w k b ar kk e = subst (λ z. IsTrue z ↔ MissesWithoutPlace S c list k) (sym e) (by_flag w refl)
+  where
+    l : Link
+    l = link links k
 
-pub answer_kept : (S : List Point) (c : ℕ) (list : List (ℕ × Bool)) (links : List Link) (w : Bool) (k : ℕ) → HasRightLinks S c list links w → IsKept list k → w ≡ false → IsTrue (link links k).opens ↔ MissesWithoutPlace S c list k
-answer_kept S c list links w k ar kk e =
-    let r = ar.right k kk in
-    let l = link links k in
-    let m = missed_without_one S c list k r.first r.second ar.accepted ar.order kk r.before r.after in
-    let o : IsTrue l.opens ↔ IsWide S c (entry list r.first).0 (entry list r.second).0 =
-    subst (λ x. IsTrue l.opens ↔ IsWide S c x (entry list r.second).0) (sym r.before_name) (subst (λ x. IsTrue l.opens ↔ IsWide S c l.before x) (sym r.after_name) r.opens) in
-    (λ t. m.1 (inr (o.0 t)), λ h. elim (m.0 h) [ inl g ↦ absurd (false≢true (sym e ∙ ar.wide.1 g)) | inr g ↦ o.1 g ])
+    missed : MissesWithoutPlace S c list k ↔ (MissesSome S c list ⊎ IsWide S c l.before l.after)
+    missed =
+        let r = ar.right k kk in
+        let m = missed_without_one S c list k r.first r.second ar.accepted ar.order kk r.before r.after in
+        subst (λ x. MissesWithoutPlace S c list k ↔ (MissesSome S c list ⊎ IsWide S c l.before x)) r.after_name
+        (subst (λ x. MissesWithoutPlace S c list k ↔ (MissesSome S c list ⊎ IsWide S c x (entry list r.second).0)) r.before_name m)
+
+    by_flag : (v : Bool) → w ≡ v → IsTrue (v || l.opens) ↔ MissesWithoutPlace S c list k
+    by_flag true h = (λ t. missed.1 (inl (ar.wide.0 h)), λ m. refl)
+    by_flag false h = (
+      λ t. missed.1 (inr ((ar.right k kk).opens.0 t)),
+      λ m. elim (missed.0 m) [ inl g ↦ absurd (false≢true (sym h ∙ ar.wide.1 g)) | inr g ↦ (ar.right k kk).opens.1 g ],
+    )
 
 -- a star without neighbours
 pub right_empty : (S : List Point) (c : ℕ) → AreAccepted S → c < length S → HasRightLinks S c [] [] true

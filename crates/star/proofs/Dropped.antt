@@ -1,5 +1,5 @@
 -- The kept answers stay right where a mark goes.
-use Rattle.std.proofs.Common.{◌≡◌, ◌≢◌, ℕ, ◌<◌, Bool, false, List, length, set, take, drop, ◌++◌, inl, inr, ◌↔◌, IsTrue, sym, ◌∙◌, ap, subst, refl}
+use Rattle.std.proofs.Common.{◌≡◌, ◌≢◌, ℕ, ◌<◌, Bool, false, List, length, set, take, ◌++◌, inl, inr, ◌↔◌, IsTrue, sym, ◌∙◌, ap, subst, refl}
 use Rattle.std.proofs.Math.Seq.{take-append_seam}
 use Rattle.plane.specs.declared.coordinates.Point.{Point}
 use Rattle.star.specs.Stars.{entry, IsOrderly}
@@ -122,37 +122,17 @@ seat_before S c list links w k a ar kk ha at = let r = ar.right k kk in subst (�
 pub seat_after : (S : List Point) (c : ℕ) (list : List (ℕ × Bool)) (links : List Link) (w : Bool) (k b : ℕ) → HasRightLinks S c list links w → IsKept list k → b < length list → (entry list b).0 ≡ (link links k).after → IsKeptAfter list k b
 seat_after S c list links w k b ar kk hb at = let r = ar.right k kk in subst (λ x. IsKeptAfter list k x) (sym (one_position S c list b r.second ar.order hb r.after.kept.0 (at ∙ sym r.after_name))) r.after
 
-pub drop_by : (S P : List Point) (c : ℕ) (list xs ys : List (ℕ × Bool)) (links ms ns : List Link) (w w' : Bool) (k q n a b : ℕ) (gone : Link) → HasRightLinks S c list links w → IsKept list k → gone ≡ link links k → q ≡ (entry list k).0
-    → (IsTrue w' ↔ MissesWithoutPlace S c list k) → gone.before ≢ q → P ≡ S → xs ≡ list → ys ≡ list → a < length xs → (entry xs a).0 ≡ gone.before → b < length ys → (entry ys b).0 ≡ gone.after → ms ≡ links → length ms ≡ n
-    → IsTakenOut P c ms ns a b gone.before gone.after → HasRightLinks S c (set list k (q, false)) (take n (ns ++ drop (length ns) links)) w'
-drop_by S P c list xs ys links ms ns w w' k q n a b gone ar kk eg eq answer others eP ex ey ha at_a hb at_b em en closed =
-    subst (λ z. HasRightLinks S c (set list k (q, false)) z w') (sym (spliced n ns (drop (length ns) links) (closed.len ∙ en)))
-    (dropped S c list (set list k (q, false)) links ns w w' k a b ar (set_without list k q kk (sym eq)) answer (orderly_marked S c list k q false ar.order kk.0 (sym eq)) before after ak closed_here)
-  where
-    ea : (entry list a).0 ≡ gone.before
-    ea = ap (λ zs. (entry zs a).0) (sym ex) ∙ at_a
+-- the links without k's, where another is kept, are those of the list without its mark
+pub unlinked : (S : List Point) (c : ℕ) (list : List (ℕ × Bool)) (links ns : List Link) (w w' : Bool) (k a b : ℕ) (gone : Link) → HasRightLinks S c list links w → IsKept list k → gone ≡ link links k → (IsTrue w' ↔ MissesWithoutPlace S c list k)
+    → gone.before ≢ (entry list k).0 → IsKeptBefore list k a → IsKeptAfter list k b → (entry list a).0 ≡ gone.before → (entry list b).0 ≡ gone.after → IsTakenOut S c links ns a b gone.before gone.after
+    → HasRightLinks S c (set list k ((entry list k).0, false)) ns w'
+unlinked S c list links ns w w' k a b gone ar kk eg answer others before after at_a at_b taken =
+    dropped S c list (set list k ((entry list k).0, false)) links ns w w' k a b ar (set_without list k (entry list k).0 kk refl) answer (orderly_marked S c list k (entry list k).0 false ar.order kk.0 refl) before after
+    (λ e. others (sym at_a ∙ ap (λ i. (entry list i).0) e))
+    (subst (λ x. IsTakenOut S c links ns a b x (entry list b).0) (sym at_a) (subst (λ x. IsTakenOut S c links ns a b gone.before x) (sym at_b) taken))
 
-    eb : (entry list b).0 ≡ gone.after
-    eb = ap (λ zs. (entry zs b).0) (sym ey) ∙ at_b
-
-    before : IsKeptBefore list k a
-    before = seat_before S c list links w k a ar kk (subst (λ (zs : List (ℕ × Bool)). a < length zs) ex ha) (ea ∙ ap (λ (l : Link). l.before) eg)
-
-    after : IsKeptAfter list k b
-    after = seat_after S c list links w k b ar kk (subst (λ (zs : List (ℕ × Bool)). b < length zs) ey hb) (eb ∙ ap (λ (l : Link). l.after) eg)
-
-    ak : a ≢ k
-    ak e = others (sym ea ∙ ap (λ i. (entry list i).0) e ∙ sym eq)
-
-    closed_here : IsTakenOut S c links ns a b (entry list a).0 (entry list b).0
-    closed_here =
-        subst (λ x. IsTakenOut S c links ns a b x (entry list b).0) (sym ea)
-        (subst (λ x. IsTakenOut S c links ns a b gone.before x) (sym eb)
-        (subst (λ z. IsTakenOut S c z ns a b gone.before gone.after) em
-        (subst (λ z. IsTakenOut z c ms ns a b gone.before gone.after) eP closed)))
-
-pub drop_by_last : (S : List Point) (c : ℕ) (list : List (ℕ × Bool)) (links : List Link) (w w' : Bool) (k q : ℕ) (gone : Link) → HasRightLinks S c list links w → IsKept list k → gone ≡ link links k → q ≡ (entry list k).0
-    → (IsTrue w' ↔ MissesWithoutPlace S c list k) → gone.before ≡ q → HasRightLinks S c (set list k (q, false)) links w'
-drop_by_last S c list links w w' k q gone ar kk eg eq answer alone =
-    dropped_last S c list (set list k (q, false)) links w w' k ar (set_without list k q kk (sym eq)) answer (orderly_marked S c list k q false ar.order kk.0 (sym eq))
-    (seat_before S c list links w k k ar kk kk.0 (sym eq ∙ sym alone ∙ ap (λ (l : Link). l.before) eg))
+pub unlinked_last : (S : List Point) (c : ℕ) (list : List (ℕ × Bool)) (links : List Link) (w w' : Bool) (k : ℕ) (gone : Link) → HasRightLinks S c list links w → IsKept list k → gone ≡ link links k
+    → (IsTrue w' ↔ MissesWithoutPlace S c list k) → gone.before ≡ (entry list k).0 → HasRightLinks S c (set list k ((entry list k).0, false)) links w'
+unlinked_last S c list links w w' k gone ar kk eg answer alone =
+    dropped_last S c list (set list k ((entry list k).0, false)) links w w' k ar (set_without list k (entry list k).0 kk refl) answer (orderly_marked S c list k (entry list k).0 false ar.order kk.0 refl)
+    (seat_before S c list links w k k ar kk kk.0 (sym alone ∙ ap (λ (l : Link). l.before) eg))

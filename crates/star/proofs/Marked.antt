@@ -1,5 +1,5 @@
 -- The kept answers by names stay right where a mark comes.
-use Rattle.std.proofs.Common.{◌≡◌, ◌≢◌, ℕ, ◌<◌, Bool, true, false, List, length, set, take, drop, ◌++◌, inl, inr, ◌↔◌, IsTrue, arith, sym, ◌∙◌, ap, subst, refl, Some, None, get_or-set_other, get_or-set_same, length-set}
+use Rattle.std.proofs.Common.{◌≡◌, ◌≢◌, ℕ, ◌<◌, Bool, true, false, List, length, set, inl, inr, ◌↔◌, IsTrue, arith, sym, ◌∙◌, ap, subst, refl, Some, None, get_or-set_other, get_or-set_same, length-set}
 use Rattle.std.proofs.lemmas.Bool.{false≢true}
 use Rattle.plane.specs.declared.coordinates.Point.{Point}
 use Rattle.star.specs.Stars.{entry, IsOrderly}
@@ -12,7 +12,7 @@ use Rattle.number_laws.proofs.Naturals.{equal_or_not}
 use Rattle.star.proofs.Gaps.{missed_with_wide_gap, not_ahead_of_itself, half_turn_of_need}
 use Rattle.star.proofs.Without.{IsWithout, set_with}
 use Rattle.star.proofs.Answers.{missed_with_small_gap}
-use Rattle.star.proofs.Dropped.{right_of, seat_before, spliced}
+use Rattle.star.proofs.Dropped.{right_of, seat_before}
 use Rattle.star.proofs.Splits.{missed_with_mark}
 use Rattle.star.proofs.KeptOrder.{after_of_before, before_of_after, after_more, before_more, before_by_next}
 
@@ -128,27 +128,24 @@ kept_more S c list new links links' w w' k a b r p q ar wo answer so before afte
       ]
     ]
 
-pub keep_by : (S P : List Point) (c : ℕ) (list xs : List (ℕ × Bool)) (links ms ns : List Link) (w w' : Bool) (k r p q n a b : ℕ) → HasRightLinks S c list links w → k < length list → (entry list k).1 ≡ false → r ≡ (entry list k).0
-    → IsAfterOrNone list k (Some b) → p ≡ (link links b).before → q ≡ (entry list b).0 → P ≡ S → xs ≡ list → a < length xs → (entry xs a).0 ≡ p → ms ≡ links → length ms ≡ n → IsMended P c w r p q w' → IsPutIn P c ms ns k a b r p q
-    → HasRightLinks S c (set list k (r, true)) (take n (ns ++ drop (length ns) links)) w'
-keep_by S P c list xs links ms ns w w' k r p q n a b ar hk spare er next ep eq eP ex ha at_a em en mended opened =
-    subst (λ z. HasRightLinks S c new z w') (sym (spliced n ns (drop (length ns) links) (opened.len ∙ en)))
-    (kept_more S c list new links ns w w' k a b r p q ar wo (answer mended_here) so before after ak next.0 (sym (wo.names k) ∙ sym er) name_a name_b opened_here)
+-- the links with k's, where another is kept, are those of the list with its mark
+pub linked_in : (S : List Point) (c : ℕ) (list : List (ℕ × Bool)) (links ns : List Link) (w w' : Bool) (k r p q a b : ℕ) → HasRightLinks S c list links w → k < length list → (entry list k).1 ≡ false → r ≡ (entry list k).0
+    → IsAfterOrNone list k (Some b) → p ≡ (link links b).before → q ≡ (entry list b).0 → a < length list → (entry list a).0 ≡ p → IsMended S c w r p q w' → IsPutIn S c links ns k a b r p q
+    → HasRightLinks S c (set list k ((entry list k).0, true)) ns w'
+linked_in S c list links ns w w' k r p q a b ar hk spare er next ep eq ha ea mended opened =
+    kept_more S c list new links ns w w' k a b r p q ar wo (answer mended_here) so before after ak next.0 (sym (wo.names k) ∙ sym er) name_a name_b opened
   where
     new : List (ℕ × Bool)
-    new = set list k (r, true)
+    new = set list k ((entry list k).0, true)
 
     free : ¬ IsKept list k
     free h = false≢true (sym spare ∙ h.1)
 
     wo : IsWithout new list k
-    wo = set_with list k r hk free (sym er)
+    wo = set_with list k (entry list k).0 hk free refl
 
     so : IsOrderly S c new
-    so = orderly_marked S c list k r true ar.order hk (sym er)
-
-    ea : (entry list a).0 ≡ p
-    ea = ap (λ zs. (entry zs a).0) (sym ex) ∙ at_a
+    so = orderly_marked S c list k (entry list k).0 true ar.order hk refl
 
     name_a : (entry new a).0 ≡ p
     name_a = sym (wo.names a) ∙ ea
@@ -157,7 +154,7 @@ keep_by S P c list xs links ms ns w w' k r p q n a b ar hk spare er next ep eq e
     name_b = sym (wo.names b) ∙ sym eq
 
     was : IsKeptBefore list k a
-    was = before_by_next list k a b free next.1.kept next.1 (seat_before S c list links w b a ar next.1.kept (subst (λ (zs : List (ℕ × Bool)). a < length zs) ex ha) (ea ∙ ep))
+    was = before_by_next list k a b free next.1.kept next.1 (seat_before S c list links w b a ar next.1.kept ha (ea ∙ ep))
 
     ak : a ≢ k
     ak = (wo.rest a was.kept).0
@@ -172,10 +169,7 @@ keep_by S P c list xs links ms ns w w' k r p q n a b ar hk spare er next ep eq e
     mended_here =
         subst (λ x. IsMended S c w x (entry new a).0 (entry new b).0 w') (er ∙ wo.names k)
         (subst (λ x. IsMended S c w r x (entry new b).0 w') (sym name_a)
-        (subst (λ x. IsMended S c w r p x w') (sym name_b) (subst (λ z. IsMended z c w r p q w') eP mended)))
-
-    opened_here : IsPutIn S c links ns k a b r p q
-    opened_here = subst (λ z. IsPutIn S c z ns k a b r p q) em (subst (λ z. IsPutIn z c ms ns k a b r p q) eP opened)
+        (subst (λ x. IsMended S c w r p x w') (sym name_b) mended))
 
     answer : IsMended S c w (entry new k).0 (entry new a).0 (entry new b).0 w' → IsTrue w' ↔ MissesSome S c new
     answer (inl (wide, iff)) =
@@ -184,23 +178,22 @@ keep_by S P c list xs links ms ns w w' k r p q n a b ar hk spare er next ep eq e
     answer (inr (small, e)) =
         subst (λ z. IsTrue z ↔ MissesSome S c new) (sym e) (missed_with_small_gap S c list new w k a b ar.accepted wo so before after ar.wide small)
 
-pub keep_by_first : (S P : List Point) (c : ℕ) (list : List (ℕ × Bool)) (links ms ns : List Link) (w : Bool) (k r n : ℕ) → HasRightLinks S c list links w → k < length list → (entry list k).1 ≡ false → r ≡ (entry list k).0
-    → IsAfterOrNone list k None → P ≡ S → ms ≡ links → length ms ≡ n → IsSetLink P c ms ns k r r
-    → HasRightLinks S c (set list k (r, true)) (take n (ns ++ drop (length ns) links)) true
-keep_by_first S P c list links ms ns w k r n ar hk spare er next eP em en is_set =
-    subst (λ z. HasRightLinks S c new z true) (sym (spliced n ns (drop (length ns) links) (len ∙ en))) (record {
-      accepted = ar.accepted;
-      order = so;
-      len = len ∙ ap length em ∙ ar.len ∙ wo.len;
-      right = λ m km. elim (equal_or_not m k) [
-        | inl e ↦ subst (λ z. IsRightLink S c new z (link ns z)) (sym e) (right_of S c new ns k k k r r (set_has S c links ns k r r (omega (arith, ar.len)) set_here) before after own own)
-        | inr ne ↦ absurd (bare m (wo.stays m km ne))
-      ];
-      wide = (λ t. (missed_with_wide_gap S c new ar.accepted so).1 (inr (k, k, wo.kept, after, wide)), λ h. refl);
-    })
+-- the link of the first kept neighbour
+pub linked_alone : (S : List Point) (c : ℕ) (list : List (ℕ × Bool)) (links ns : List Link) (w : Bool) (k r : ℕ) → HasRightLinks S c list links w → k < length list → (entry list k).1 ≡ false → r ≡ (entry list k).0
+    → IsAfterOrNone list k None → IsSetLink S c links ns k r r → HasRightLinks S c (set list k ((entry list k).0, true)) ns true
+linked_alone S c list links ns w k r ar hk spare er next is_set = record {
+  accepted = ar.accepted;
+  order = so;
+  len = set_len S c links ns k r r is_set ∙ ar.len ∙ wo.len;
+  right = λ m km. elim (equal_or_not m k) [
+    | inl e ↦ subst (λ z. IsRightLink S c new z (link ns z)) (sym e) (right_of S c new ns k k k r r (set_has S c links ns k r r (omega (arith, ar.len)) is_set) before after own own)
+    | inr ne ↦ absurd (bare m (wo.stays m km ne))
+  ];
+  wide = (λ t. (missed_with_wide_gap S c new ar.accepted so).1 (inr (k, k, wo.kept, after, wide)), λ h. refl);
+}
   where
     new : List (ℕ × Bool)
-    new = set list k (r, true)
+    new = set list k ((entry list k).0, true)
 
     free : ¬ IsKept list k
     free h = false≢true (sym spare ∙ h.1)
@@ -209,19 +202,13 @@ keep_by_first S P c list links ms ns w k r n ar hk spare er next eP em en is_set
     bare m km = free (subst (λ z. IsKept list z) (next m km) km)
 
     wo : IsWithout new list k
-    wo = set_with list k r hk free (sym er)
+    wo = set_with list k (entry list k).0 hk free refl
 
     so : IsOrderly S c new
-    so = orderly_marked S c list k r true ar.order hk (sym er)
+    so = orderly_marked S c list k (entry list k).0 true ar.order hk refl
 
     own : (entry new k).0 ≡ r
     own = sym (wo.names k) ∙ sym er
-
-    len : length ns ≡ length ms
-    len = set_len P c ms ns k r r is_set
-
-    set_here : IsSetLink S c links ns k r r
-    set_here = subst (λ z. IsSetLink S c z ns k r r) em (subst (λ z. IsSetLink z c ms ns k r r) eP is_set)
 
     before : IsKeptBefore new k k
     before = record { kept = wo.kept; last = λ m km mk _. absurd (bare m (wo.stays m km mk)) }

@@ -3,3 +3,4 @@ pub mod Stars
 pub mod StarOf
 pub mod Gaps
 pub mod Links
+pub mod Plain

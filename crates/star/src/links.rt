@@ -1,10 +1,11 @@
 // What a star keeps of each kept neighbour: the kept ones before and after it, and whether the gap between these is
 // more than straight. A neighbour's answer changes only where it stands next to a changed mark.
-ghost use Rattle.std.specs.Prelude.{◌≡◌, ◌≢◌, ℕ, ◌+◌, ◌<◌, ◌≤◌, ◌^◌, ◌↔◌, length, IsTrue, insert, vec_len, vec_capacity, false};
+ghost use Rattle.std.specs.Prelude.{◌≡◌, ◌≢◌, ℕ, ◌+◌, ◌<◌, ◌≤◌, ◌^◌, ◌↔◌, ◌||◌, length, IsTrue, insert, vec_len, vec_capacity, slice_set, true, false};
 ghost use Rattle.star.specs.Stars.{entry};
-ghost use Rattle.star.specs.Gaps.{IsWide};
-ghost use Rattle.star.specs.Links.{link, IsSetLink, IsTakenOut, IsPutIn, IsMended, IsFirstIn, IsAfterOrNone};
+ghost use Rattle.star.specs.Gaps.{IsKept, IsWide};
+ghost use Rattle.star.specs.Links.{link, HasRightLinks, IsSetLink, IsTakenOut, IsPutIn, IsMended, IsFirstIn, IsAfterOrNone};
 
+use crate::seek::position;
 use plane::Points;
 
 /// The kept neighbours before and after a kept one, and whether the gap between them is more than straight.
@@ -49,8 +50,8 @@ fn is_wide(points: &Points, centre: u32, p: u32, q: u32) -> bool
     !points.in_need(centre, p, q)
 }
 
-/// Sets the link at `k`.
-pub fn set_link(points: &Points, centre: u32, links: &mut [Link], k: u32, before: u32, after: u32)
+// Sets the link at k.
+fn set_link(points: &Points, centre: u32, links: &mut [Link], k: u32, before: u32, after: u32)
     requires place { k < length links.old }
     requires centre_in { centre < length points.now }
     requires first_in { before < length points.now }
@@ -66,8 +67,8 @@ pub fn set_link(points: &Points, centre: u32, links: &mut [Link], k: u32, before
     };
 }
 
-/// Takes out what stood between `a` and `b`, which stand for `p` and `q`.
-pub fn take_out(points: &Points, centre: u32, links: &mut [Link], a: u32, b: u32, p: u32, q: u32)
+// Takes out what stood between a and b, which stand for p and q.
+fn take_out(points: &Points, centre: u32, links: &mut [Link], a: u32, b: u32, p: u32, q: u32)
     requires first { a < length links.old }
     requires second { b < length links.old }
     requires centre_in { centre < length points.now }
@@ -89,8 +90,8 @@ pub fn take_out(points: &Points, centre: u32, links: &mut [Link], a: u32, b: u32
     }
 }
 
-/// Puts `k`, which stands for `r`, in between `a` and `b`, which stand for `p` and `q`.
-pub fn put_in(
+// Puts k, which stands for r, in between a and b, which stand for p and q.
+fn put_in(
     points: &Points,
     centre: u32,
     links: &mut [Link],
@@ -128,8 +129,8 @@ pub fn put_in(
     }
 }
 
-/// Whether some need is missed, once `r` is kept between `p` and `q`.
-pub fn misses_with(points: &Points, centre: u32, misses: bool, r: u32, p: u32, q: u32) -> bool
+// Whether some need is missed, once r is kept between p and q.
+fn misses_with(points: &Points, centre: u32, misses: bool, r: u32, p: u32, q: u32) -> bool
     requires centre_in { centre < length points.now }
     requires r_in { r < length points.now }
     requires p_in { p < length points.now }
@@ -170,6 +171,69 @@ pub fn kept_after(list: &[(u32, bool)], k: u32) -> Option<u32>
     match first_kept(list, k + 1, list.len() as u32) {
         Some(j) => Some(j),
         None => first_kept(list, 0, k),
+    }
+}
+
+/// Whether without the kept position `k` some need is missed.
+pub fn opens(links: &[Link], misses: bool, k: u32) -> bool
+    requires { k < length links.now }
+    ensures { result ≡ (misses || (link links.now k).opens) }
+{
+    misses || link_at(links, k).opens
+}
+
+/// Mends the links before the mark of the kept position `k` goes, and answers whether some need is missed then.
+pub fn unlink(
+    points: &Points,
+    centre: u32,
+    list: &[(u32, bool)],
+    links: &mut [Link],
+    misses: bool,
+    k: u32,
+) -> bool
+    requires right { HasRightLinks points.now centre list.now links.old misses }
+    requires kept { IsKept list.now k }
+    ensures { HasRightLinks points.now centre (slice_set list.now k ((entry list.now k).0, false)) links.new result }
+{
+    let gone = link_at(links, k);
+    let opened = opens(links, misses, k);
+    if gone.before == name_at(list, k) {
+        return opened;
+    }
+    let a = position(points, centre, list, gone.before);
+    let b = position(points, centre, list, gone.after);
+    take_out(points, centre, links, a, b, gone.before, gone.after);
+    opened
+}
+
+/// Mends the links before the position `k` is marked as kept, and answers whether some need is missed then.
+pub fn link_in(
+    points: &Points,
+    centre: u32,
+    list: &[(u32, bool)],
+    links: &mut [Link],
+    misses: bool,
+    k: u32,
+) -> bool
+    requires right { HasRightLinks points.now centre list.now links.old misses }
+    requires place { k < length list.now }
+    requires spare { (entry list.now k).1 ≡ false }
+    ensures { HasRightLinks points.now centre (slice_set list.now k ((entry list.now k).0, true)) links.new result }
+{
+    let name = name_at(list, k);
+    match kept_after(list, k) {
+        None => {
+            set_link(points, centre, links, k, name, name);
+            true
+        }
+        Some(b) => {
+            let p = link_at(links, b).before;
+            let q = name_at(list, b);
+            let a = position(points, centre, list, p);
+            let missed = misses_with(points, centre, misses, name, p, q);
+            put_in(points, centre, links, k, a, b, name, p, q);
+            missed
+        }
     }
 }
 

@@ -3,8 +3,7 @@ ghost use Rattle.star.specs.Stars.{Seen, entry, around, IsStar, IsNeighbour, Has
 ghost use Rattle.star.specs.Gaps.{IsKept, MeetsAll, MeetsWithout, MissesSome, MissesWithout};
 
 use crate::links::{
-    Link, kept_after, link_at, misses_with, name_at, put_in, put_link, put_neighbour, set_link,
-    take_out,
+    Link, kept_after, link_at, link_in, name_at, opens, put_link, put_neighbour, unlink,
 };
 use crate::seek::{find, position, seat};
 use mcp_outside::NoMemory;
@@ -171,7 +170,7 @@ impl Star {
         ensures opens { IsTrue result ↔ MissesWithout self.now (entry self.now.list k).0 }
         ensures met { result ≡ false → MeetsWithout self.now (entry self.now.list k).0 }
     {
-        self.misses || link_at(&self.links, k).opens
+        opens(&self.links, self.misses, k)
     }
 
     /// Whether some need of the centre isn't met by the kept neighbours. It looks at no point: the star keeps the answer.
@@ -210,25 +209,16 @@ impl Star {
         ensures mark { self.new ≡ record self.old { list = slice_set self.old.list k ((entry self.old.list k).0, false) } }
         ensures order { IsStar self.new }
     {
-        let gone = link_at(&self.links, k);
-        self.misses = self.opens_at(k);
         let name = name_at(&self.list, k);
-        if gone.before != name {
-            let a = position(points, self.centre, &self.list, gone.before);
-            let b = position(points, self.centre, &self.list, gone.after);
-            take_out(
-                points,
-                self.centre,
-                &mut self.links,
-                a,
-                b,
-                gone.before,
-                gone.after,
-            );
-            self.list[k as usize] = (name, false);
-        } else {
-            self.list[k as usize] = (name, false);
-        }
+        self.misses = unlink(
+            points,
+            self.centre,
+            &self.list,
+            &mut self.links,
+            self.misses,
+            k,
+        );
+        self.list[k as usize] = (name, false);
     }
 
     /// Marks the neighbour `q`, which isn't kept, as kept.
@@ -250,23 +240,16 @@ impl Star {
         ensures mark { self.new ≡ record self.old { list = slice_set self.old.list k ((entry self.old.list k).0, true) } }
         ensures order { IsStar self.new }
     {
-        let _count = points.len();
         let name = name_at(&self.list, k);
-        match kept_after(&self.list, k) {
-            None => {
-                set_link(points, self.centre, &mut self.links, k, name, name);
-                self.misses = true;
-                self.list[k as usize] = (name, true);
-            }
-            Some(b) => {
-                let p = link_at(&self.links, b).before;
-                let q = name_at(&self.list, b);
-                let a = position(points, self.centre, &self.list, p);
-                self.misses = misses_with(points, self.centre, self.misses, name, p, q);
-                put_in(points, self.centre, &mut self.links, k, a, b, name, p, q);
-                self.list[k as usize] = (name, true);
-            }
-        }
+        self.misses = link_in(
+            points,
+            self.centre,
+            &self.list,
+            &mut self.links,
+            self.misses,
+            k,
+        );
+        self.list[k as usize] = (name, true);
     }
 
     /// Makes room for `more` neighbours. Without memory all stays as it was.

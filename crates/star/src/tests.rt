@@ -8,6 +8,9 @@ use plane::{Point, Points};
 use std::alloc::Global;
 use std::test::Fail;
 
+mod gaps;
+mod needs;
+
 // A grid of three by three points about the origin; the point (x, y) has the index 3 * y + x + 4.
 fn grid(alloc: Global) -> Result<Points, Fail>
     ensures { IfOk result (λ points. length points ≡ 9) }
@@ -21,6 +24,14 @@ fn grid(alloc: Global) -> Result<Points, Fail>
     }
     if list.len() != 9 {
         return Err(Fail::from("not nine points"));
+    }
+    Ok(Points::make(list)?)
+}
+
+// The points of a list that is accepted.
+fn accepted(list: Vec<Point>) -> Result<Points, Fail> {
+    if list.len() > 5000 {
+        return Err(Fail::from("too many points"));
     }
     Ok(Points::make(list)?)
 }

@@ -22,7 +22,8 @@ pub struct Bundle {
 /// The bundle of an input, or its first refusal.
 #[tactic(auto, unfolding(text_defs::specs::Bundles::parts_from))]
 pub fn read_bundle(alloc: Global, bytes: &[u8]) -> Result<Bundle, Unread>
-    ensures { MatchResult result (λ bundle. HasBundle bytes.now bundle.points bundle.pairs.items) (TellsBundle bytes.now) }
+    ensures { MatchResult result
+        (λ bundle. HasBundle bytes.now bundle.points bundle.pairs.items) (TellsBundle bytes.now) }
 {
     let value = match read_value(alloc, bytes) {
         Ok(value) => value,
@@ -36,7 +37,8 @@ pub fn read_bundle(alloc: Global, bytes: &[u8]) -> Result<Bundle, Unread>
 #[tactic(auto, unfolding(text_defs::specs::Bundles::parts_from))]
 fn parts_of(alloc: Global, bytes: &[u8], value: &Value) -> Result<Bundle, Unread>
     requires { json_reading bytes.now ≡ Some (view value.now) }
-    ensures { MatchResult result (λ bundle. HasBundle bytes.now bundle.points bundle.pairs.items) (TellsBundle bytes.now) }
+    ensures { MatchResult result
+        (λ bundle. HasBundle bytes.now bundle.points bundle.pairs.items) (TellsBundle bytes.now) }
 {
     let Some(instance) = value.get("instance") else {
         return Err(refused(BundleFault::NoInstance));
@@ -55,7 +57,8 @@ fn bundle_of(
     solution: &Value,
 ) -> Result<Bundle, Unread>
     requires { HasParts bytes.now (view instance.now) (view solution.now) }
-    ensures { MatchResult result (λ bundle. HasBundle bytes.now bundle.points bundle.pairs.items) (TellsBundle bytes.now) }
+    ensures { MatchResult result
+        (λ bundle. HasBundle bytes.now bundle.points bundle.pairs.items) (TellsBundle bytes.now) }
 {
     let points = match instance_of(alloc, instance) {
         Ok(instance) => instance.points,

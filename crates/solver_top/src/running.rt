@@ -58,7 +58,8 @@ fn answer<R: Threads + Sync, I: Source, G: Gate + Sync>(
         (answer.verdict ≡ Verdict.Usage) × IsUsageText (words_of words.now) answer.text.items) }
     ensures alone { (command : Command) → IsLineOf (words_of words.now) command → reads_input command ≡ false →
         (input.new ≡ input.old) × IfOk result (λ answer. IsAnswerTo command [] answer.verdict answer.text.items) }
-    ensures command { (command : Command) (xs : List ℕ) → IsLineOf (words_of words.now) command → I.left input.old ≡ Some xs →
+    ensures command { (command : Command) (xs : List ℕ) → IsLineOf (words_of words.now) command →
+        I.left input.old ≡ Some xs →
         IfOk result (λ answer. IsAnswerOf command xs (I.left input.new) answer.verdict answer.text.items) }
 {
     match read_words(words) {
@@ -124,11 +125,12 @@ fn input_of<I: Source, L: Ledger>(
     ensures kept { ¬ IsErrOf result ReadEnd.Failed → I.faults input.new ≡ I.faults input.old }
     ensures calls { steps.new ≤ steps.old + most_input + 1 }
     ensures each_took { IfOk result (λ bytes. steps.new ≤ steps.old + length bytes.items + 1) }
-    ensures alone { reads_input command ≡ false → (input.new ≡ input.old) × IsOk result × IfOk result (λ bytes. bytes.items ≡ []) }
+    ensures alone { reads_input command ≡ false → (input.new ≡ input.old) × IsOk result × IfOk result
+        (λ bytes. bytes.items ≡ []) }
     ensures whole { reads_input command ≡ true → (xs : List ℕ) → I.left input.old ≡ Some xs → IfOk result (λ bytes.
         (bytes.items ≡ xs) × (length xs ≤ most_input) × (I.left input.new ≡ Some [])) }
-    ensures long { reads_input command ≡ true → (xs : List ℕ) → I.left input.old ≡ Some xs → IsErrOf result ReadEnd.TooLong →
-        Took (most_input + 1) xs (I.left input.new) }
+    ensures long { reads_input command ≡ true → (xs : List ℕ) → I.left input.old ≡ Some xs →
+        IsErrOf result ReadEnd.TooLong → Took (most_input + 1) xs (I.left input.new) }
 {
     if command.reads_input() {
         read_all(alloc, input, MOST_INPUT, steps)
@@ -185,10 +187,12 @@ fn too_long(alloc: Global) -> Result<Answer, Halt>
 fn deliver<O: Sink>(answer: &Answer, out: &mut O) -> Status
     ensures later { O.faults out.old ≤ O.faults out.new }
     ensures status { (result ≡ status_of answer.now.verdict) ⊎ (result ≡ Status.WriteFault) }
-    ensures whole { result ≢ Status.WriteFault → Appends (O.contents out.old) (O.contents out.new) answer.now.text.items }
+    ensures whole { result ≢ Status.WriteFault →
+        Appends (O.contents out.old) (O.contents out.new) answer.now.text.items }
     ensures kept { result ≢ Status.WriteFault → O.faults out.new ≡ O.faults out.old }
     ensures fault { result ≡ Status.WriteFault → Rose (O.faults out.old) (O.faults out.new) }
-    ensures prefix { result ≡ Status.WriteFault → AppendsPrefix (O.contents out.old) (O.contents out.new) answer.now.text.items }
+    ensures prefix { result ≡ Status.WriteFault →
+        AppendsPrefix (O.contents out.old) (O.contents out.new) answer.now.text.items }
     ensures written { IsWritten result answer.now.verdict answer.now.text.items (O.contents out.old) (O.contents out.new) }
 {
     match write_all(out, answer.text.as_slice()) {
@@ -225,24 +229,29 @@ pub fn run<R: Threads + Sync, I: Source, O: Sink, G: Gate + Sync>(
     ensures silent { (result ≡ Status.ReadFault) ⊎ (result ≡ Status.NoMemory) → out.new ≡ out.old }
     // Words that are no line: the position is told, and the source is left alone, whether it tells its bytes or not.
     ensures usage { IsNoLine (words_of words.now) → (input.new ≡ input.old) × (HasText result → (text : List ℕ)
-        × IsUsageText (words_of words.now) text × IsWritten result Verdict.Usage text (O.contents out.old) (O.contents out.new)) }
+        × IsUsageText (words_of words.now) text
+        × IsWritten result Verdict.Usage text (O.contents out.old) (O.contents out.new)) }
     // What each command answers.
-    ensures judge { (xs : List ℕ) → IsLineOf (words_of words.now) Command.Judge → I.left input.old ≡ Some xs → HasText result →
-        (verdict : Verdict) × (text : List ℕ) × ReadsAll IsJudged xs (I.left input.new) verdict text
+    ensures judge { (xs : List ℕ) → IsLineOf (words_of words.now) Command.Judge → I.left input.old ≡ Some xs →
+        HasText result → (verdict : Verdict) × (text : List ℕ) × ReadsAll IsJudged xs (I.left input.new) verdict text
         × IsWritten result verdict text (O.contents out.old) (O.contents out.new) }
-    ensures start { (xs : List ℕ) → IsLineOf (words_of words.now) Command.Start → I.left input.old ≡ Some xs → HasText result →
-        (verdict : Verdict) × (text : List ℕ) × ReadsAll IsStarted xs (I.left input.new) verdict text
+    ensures start { (xs : List ℕ) → IsLineOf (words_of words.now) Command.Start → I.left input.old ≡ Some xs →
+        HasText result → (verdict : Verdict) × (text : List ℕ) × ReadsAll IsStarted xs (I.left input.new) verdict text
         × IsWritten result verdict text (O.contents out.old) (O.contents out.new) }
     ensures generated { (kind : Kind) (n seed : ℕ) → IsLineOf (words_of words.now) (Command.Gen kind n seed) →
         (input.new ≡ input.old) × (HasText result → (text : List ℕ) × IsGenerated kind n seed text
         × IsWritten result Verdict.Done text (O.contents out.old) (O.contents out.new)) }
     // A convex partition is told of a bundle whose pairs, none of them twice, are one.
-    ensures convex { (xs : List ℕ) → I.left input.old ≡ Some xs → IsLineOf (words_of words.now) Command.Judge → result ≡ Status.Done →
-        (S : List Point) × (K : List Pair) × HasBundle xs S K × AreDistinct K × IsConvexPartition S K × (I.left input.new ≡ Some [])
+    ensures convex { (xs : List ℕ) → I.left input.old ≡ Some xs → IsLineOf (words_of words.now) Command.Judge →
+        result ≡ Status.Done →
+        (S : List Point) × (K : List Pair) × HasBundle xs S K × AreDistinct K × IsConvexPartition S K
+        × (I.left input.new ≡ Some [])
         × Appends (O.contents out.old) (O.contents out.new) (judgement_line (Judgement.Convex (length K))) }
     // Words that are a line and an input that has its reading are answered by Done or No, where nothing fails.
-    ensures complete { (xs : List ℕ) (command : Command) → I.left input.old ≡ Some xs → IsLineOf (words_of words.now) command →
-        HasInput command xs → ¬ Rose (I.faults input.old) (I.faults input.new) → ¬ Rose (O.faults out.old) (O.faults out.new) →
+    ensures complete { (xs : List ℕ) (command : Command) → I.left input.old ≡ Some xs →
+        IsLineOf (words_of words.now) command →
+        HasInput command xs → ¬ Rose (I.faults input.old) (I.faults input.new) →
+        ¬ Rose (O.faults out.old) (O.faults out.new) →
         result ≢ Status.NoMemory → (result ≡ Status.Done) ⊎ (result ≡ Status.No) }
     ensures later { (I.faults input.old ≤ I.faults input.new) × (O.faults out.old ≤ O.faults out.new) }
 {

@@ -41,7 +41,8 @@ impl Command {
 
 // The number that a word is, without sign or leading zero, from the least to the most.
 fn number(word: &str, least: u64, most: u64) -> Option<u64>
-    ensures { MatchOption result ((n : ℕ) → least ≤ n → n ≤ most → word.now ≢ decimal n) (λ n. (least ≤ n) × (n ≤ most) × (word.now ≡ decimal n)) }
+    ensures { MatchOption result ((n : ℕ) → least ≤ n → n ≤ most → word.now ≢ decimal n)
+        (λ n. (least ≤ n) × (n ≤ most) × (word.now ≡ decimal n)) }
 {
     let Ok(n) = word.parse::<u64>() else {
         return None;

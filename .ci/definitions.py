@@ -1,21 +1,24 @@
 #!/usr/bin/env python3
 """definitions.py [--table]
 
-Finds the definitions that the clauses of public calls, public traits, public types and laws reach, through files of specs/,
-and compares them with the table "By file" of docs/DEFINITIONS.md. It fails where the two differ, and where a definition is
-reached that stands in a file whose first line is '-- For private clauses.'. With --table it prints the table."""
+Finds the definitions that the clauses of public calls, traits, types and laws reach, through other definitions too, and
+compares them with the table "By file" of docs/DEFINITIONS.md. It fails where the two differ, and where a definition is
+reached that stands in a file whose first line is '-- For private clauses.'. With --table it prints the table's rows.
+
+It goes by words, not by scopes: a word of a clause or a definition is taken for the definition that its file imports or has
+under that name."""
 import pathlib, re, sys
 
 TOP = pathlib.Path(__file__).resolve().parent.parent
 PRIVATE = '-- For private clauses.'
 HEADING = '## By file'
-WORD = re.compile(r"[^\s(){}\[\],;:.=λ×→≡≢≤<>+*/|&\"↔⊎¬∷⟦⟧∥]+")
 USE = re.compile(r'(?:ghost )?use Rattle\.(\w+)\.specs\.([\w.]+?)(?:\.\{([^}]*)\}| as (\w+))?;?\s*$')
-START = re.compile(r'^(?:(?:abbrev|unfoldable|pub|data|record|infix\w*|mutual)\s+)*(?P<kind>abbrev pub|unfoldable pub|pub record|pub data|pub|abbrev|unfoldable|record|data)\s+(?P<name>[^\s:({]+)')
+DEFINES = re.compile(r'^(?:abbrev pub|unfoldable pub|pub record|pub data|pub|abbrev|unfoldable|record|data)\s+([^\s:({]+)')
+WORD = re.compile(r'[^\s(){}\[\],;=λ×→≡≢≤<>+*/|&"↔⊎¬∷]+')
 
 
 def imports(lines):
-    """The names that a file imports from specs/: name -> (crate, module, name there); and modules under a name."""
+    """What a file imports from specs/: its names, each as (crate, module, name there), and its modules."""
     names, modules = {}, {}
     for line in lines:
         found = USE.match(line.strip())
@@ -32,20 +35,15 @@ def imports(lines):
 
 
 def words(text):
-    """The words of a text, with a module's name before a dot kept beside the word behind it."""
-    text = re.sub(r'--.*', '', text)
-    for found in re.finditer(r"([^\s(){}\[\],;=λ×→≡≢≤<>+*/|&\"↔⊎¬∷]+)", text):
-        yield from chain(found[1])
-
-
-def chain(word):
-    parts = [p for p in re.split(r'[.:]', word) if p]
-    for k, part in enumerate(parts):
-        yield (parts[k - 1] if k else None, part)
+    """The words of a text, each with the word before it where a dot or a colon joins the two."""
+    for found in WORD.finditer(re.sub(r'--.*', '', text)):
+        parts = [part for part in re.split(r'[.:]', found[0]) if part]
+        for k, part in enumerate(parts):
+            yield parts[k - 1] if k else None, part
 
 
 def spec_files():
-    """(crate, module) -> (path, is for private clauses, definitions as name -> text, imports)."""
+    """(crate, module) -> (path, whether it is for private clauses, its definitions by name, its imports)."""
     files = {}
     for path in sorted(TOP.glob('crates/*/specs/**/*.antt')):
         crate = path.relative_to(TOP).parts[1]
@@ -53,44 +51,41 @@ def spec_files():
         if module == 'Lib':
             continue
         lines = path.read_text().split('\n')
-        found, name = {}, None
+        defined, name = {}, None
         for line in lines:
-            start = START.match(line)
-            if start and not line.startswith('use '):
-                name = start['name']
-                found[name] = found.get(name, '')
+            found = DEFINES.match(line)
+            if found:
+                name = found[1]
             if name and not USE.match(line.strip()) and not line.startswith('--'):
-                found[name] = found[name] + '\n' + line
-        files[crate, module] = (path, lines[0].startswith(PRIVATE), found, imports(lines))
+                defined[name] = defined.get(name, '') + '\n' + line
+        files[crate, module] = (path, lines[0].startswith(PRIVATE), defined, imports(lines))
     return files
 
 
 def exported(crate):
-    """The names that a crate lets out, and the modules that it makes public, of its root file."""
-    names, modules = set(), set()
-    for root in ('lib.rt', 'main.rt'):
-        path = TOP / 'crates' / crate / 'src' / root
-        if path.is_file():
-            text = path.read_text()
-            for listed in re.findall(r'^pub use [\w:]*?(?:\{([^}]*)\}|(\w+));', text, re.M):
-                names |= {item.strip().split('::')[-1].split(' as ')[0] for item in (listed[0] or listed[1]).split(',')}
-            modules |= set(re.findall(r'^pub mod (\w+);', text, re.M)) | {'main'}
-            names |= {'main'}
+    """The names that a crate's root file lets out, and the modules that it makes public."""
+    names, modules = {'main'}, {'main', 'lib'}
+    root = TOP / 'crates' / crate / 'src' / 'lib.rt'
+    if root.is_file():
+        text = root.read_text()
+        for several, one in re.findall(r'^pub use [\w:]*?(?:\{([^}]*)\}|(\w+));', text, re.M):
+            names |= {item.strip().split('::')[-1].split(' as ')[0] for item in (several or one).split(',')}
+        modules |= set(re.findall(r'^pub mod (\w+);', text, re.M))
     return names, modules
 
 
 def type_of(header):
-    """The type of an impl, and whether it is of a trait."""
-    header = re.sub(r"<[^<>]*(?:<[^<>]*(?:<[^<>]*>)?[^<>]*>[^<>]*)*>", '', header)
+    """The type of an impl, and whether the impl is of a trait."""
+    header = re.sub(r'<[^<>]*(?:<[^<>]*(?:<[^<>]*>)?[^<>]*>[^<>]*)*>', '', header)
     found = re.match(r"impl\s+(?:([\w:]+)\s+for\s+)?&?(?:'\w+ )?(?:mut )?([\w:]+)", header)
     return (found[2].split('::')[-1], bool(found[1])) if found else ('', False)
 
 
 def public_clauses(path):
-    """The text of the clauses of public items of a source file. The invariant of a model is the crate's own affair."""
+    """The clauses of the public items of a source file. The invariant of a model is the crate's own affair."""
     lines = path.read_text().split('\n')
     names, modules = exported(path.relative_to(TOP).parts[1])
-    all_out = path.stem in modules or path.stem == 'lib'
+    all_out = path.stem in modules
     texts, here, of_trait, public, in_clause = [], False, False, False, False
     for line in lines:
         bare = line.strip()
@@ -99,17 +94,15 @@ def public_clauses(path):
         if bare.startswith('ghost invariant'):
             in_clause = False
             continue
-        top = re.match(r'(?:(pub)(\(crate\))? )?(?:const )?(impl|trait|struct|enum|fn)\b\s*(\w*)', line)
-        if top:
-            out, kind, name = bool(top[1]) and not top[2], top[3], top[4]
+        item = re.match(r'(?:(pub)(\(crate\))? )?(?:const )?(impl|trait|struct|enum|fn)\b\s*(\w*)', line)
+        if item:
+            out, kind, name = bool(item[1]) and not item[2], item[3], item[4]
             if kind == 'impl':
                 name, of_trait = type_of(line)
                 here = name in names or all_out
             else:
                 here, of_trait = (out and (all_out or name in names)) or name == 'main', kind == 'trait'
-            public, in_clause = here and kind == 'fn', False
-            if kind != 'fn':
-                public = here and of_trait
+            public, in_clause = here and (kind == 'fn' or of_trait), False
         method = re.match(r'\s+(pub(?:\(crate\))? )?(?:const )?fn\b', line)
         if method:
             public, in_clause = here and (of_trait or method[1] == 'pub '), False
@@ -124,64 +117,64 @@ def public_clauses(path):
     return '\n'.join(texts), imports(lines)
 
 
-def reached():
-    files, todo, seen = spec_files(), [], set()
+def reached(files):
+    """The definitions that public clauses reach, each as (crate, module, name)."""
+    todo, seen = [], set()
 
-    def follow(text, names, modules, here):
+    def follow(text, names, modules, defined):
         for before, word in words(text):
-            if before in modules and (modules[before][0], modules[before][1]) in files:
+            if modules.get(before) in files:
                 todo.append((*modules[before], word))
             if word in names:
                 todo.append(names[word])
-            if here and word in files[here][2]:
-                todo.append((*here, word))
+            if defined and word in files[defined][2]:
+                todo.append((*defined, word))
 
     for path in sorted(TOP.glob('crates/*/src/**/*.rt')):
-        if 'tests' in path.stem or 'tests' in path.parts:
-            continue
-        text, (names, modules) = public_clauses(path)
-        follow(text, names, modules, None)
+        if path.stem != 'tests' and 'tests' not in path.parts:
+            text, (names, modules) = public_clauses(path)
+            follow(text, names, modules, None)
     while todo:
         crate, module, name = todo.pop()
         if (crate, module, name) in seen or (crate, module) not in files:
             continue
-        path, private, found, (names, modules) = files[crate, module]
-        if name not in found:
-            # a re-export of the file, or a constructor or field of one of its types
-            if name in names:
-                todo.append(names[name])
-            continue
-        seen.add((crate, module, name))
-        follow(found[name], names, modules, (crate, module))
-    return files, seen
+        _, _, defined, (names, modules) = files[crate, module]
+        if name in defined:
+            seen.add((crate, module, name))
+            follow(defined[name], names, modules, (crate, module))
+        elif name in names:
+            todo.append(names[name])
+    return seen
+
+
+def told():
+    """The table of docs/DEFINITIONS.md: file -> names."""
+    _, _, part = (TOP / 'docs/DEFINITIONS.md').read_text().partition(HEADING)
+    rows = {}
+    for line in part.partition('\n## ')[0].split('\n'):
+        if line.startswith('| `crates/'):
+            file, names = line.split(' | ', 1)
+            rows[file.strip('|` ')] = re.findall(r'`([^`]+)`', names)
+    return rows
 
 
 def main():
-    files, seen = reached()
-    rows, bad = {}, []
-    for crate, module, name in sorted(seen):
-        path, private, found, _ = files[crate, module]
+    files = spec_files()
+    table, bad = {}, []
+    for crate, module, name in sorted(reached(files)):
+        path, private, _, _ = files[crate, module]
         if private:
             bad.append(f'{path.relative_to(TOP)}: `{name}` is for private clauses, and a public one reaches it')
-        rows.setdefault(f'crates/{crate}/specs/{module.replace(".", "/")}', []).append(name)
-    order = {file: list(files[file.split('/')[1], '.'.join(file.split('/')[3:])][2]) for file in rows}
-    table = {file: sorted(names, key=order[file].index) for file, names in rows.items()}
+        table.setdefault(f'crates/{crate}/specs/{module.replace(".", "/")}', {})[name] = list(files[crate, module][2]).index(name)
     if '--table' in sys.argv:
         for file, names in table.items():
-            print(f'| `{file}` | {", ".join(f"`{name}`" for name in names)} |')
+            print(f'| `{file}` | {", ".join(f"`{name}`" for name in sorted(names, key=names.get))} |')
         return 0
-    told, text = {}, (TOP / 'docs/DEFINITIONS.md').read_text()
-    _, _, part = text.partition(HEADING)
-    for line in part.split('\n')[1:]:
-        if line.startswith('## '):
-            break
-        cells = [cell.strip() for cell in line.split(' | ')]
-        if line.startswith('| `crates/'):
-            told[cells[0].strip('|` ')] = re.findall(r'`([^`]+)`', cells[1])
-    for file in sorted(set(table) | set(told)):
-        missing, extra = set(table.get(file, [])) - set(told.get(file, [])), set(told.get(file, [])) - set(table.get(file, []))
-        bad += [f'{file}: `{name}` is reached by a public clause, and the table lacks it' for name in sorted(missing)]
-        bad += [f'{file}: `{name}` stands in the table, and no public clause reaches it' for name in sorted(extra)]
+    rows = told()
+    for file in sorted(set(table) | set(rows)):
+        have, want = set(table.get(file, [])), set(rows.get(file, []))
+        bad += [f'{file}: `{name}` is reached by a public clause, and the table lacks it' for name in sorted(have - want)]
+        bad += [f'{file}: `{name}` stands in the table, and no public clause reaches it' for name in sorted(want - have)]
     print('\n'.join(bad + [f'definitions: {sum(map(len, table.values()))} reached, {len(bad)} differences']))
     return 1 if bad else 0
 

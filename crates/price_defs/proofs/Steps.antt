@@ -13,6 +13,7 @@ use Rattle.price_defs.specs.Rows.{Counts, Lessens, counts, lessens, weight}
 use Rattle.price_defs.specs.Loads.{given, lessened, gives, takes}
 use Rattle.price_defs.proofs.laws.Tests.{has_ends_decides, counts_decides, lessens_decides}
 use Rattle.price_defs.specs.Limits.{AreLight}
+use Rattle.price_defs.proofs.laws.Values.{gives_le, takes_le}
 
 -- a test that answers the relation is the definition's test
 pub has_ends_is : (e : Pair) (i j : ℕ) (b : Bool) → (IsTrue b ↔ HasEnds e i j) → has_ends e i j ≡ b
@@ -29,23 +30,6 @@ given_is S row i j b h = ap (λ t. cond t (weight row) 0) (counts_is S row i j b
 
 pub taken_is : (row : Row) (i j : ℕ) (b : Bool) → (IsTrue b ↔ Lessens row i j) → lessened i j row ≡ cond b (weight row) 0
 taken_is row i j b h = ap (λ t. cond t (weight row) 0) (lessens_is row i j b h)
-
-cond_le : (b : Bool) (w : ℕ) → cond b w 0 ≤ w
-cond_le true w = omega arith
-cond_le false w = omega arith
-
--- no sum is too great
-pub gives_le : (S : List Point) (rows : List Row) (i j : ℕ) → AreLight rows → length rows ≤ 200000 → gives S rows i j ≤ 200000000000000000
-gives_le S rows i j light few =
-    let a : gives S rows i j ≤ sum_by weight rows = sum_by-le-sum_by (given S i j) weight rows (λ row. cond_le (counts S row i j) (weight row)) in
-    let b : sum_by weight rows ≤ length rows * 1000000000000 = sum_by-le weight 1000000000000 rows light in
-    omega arith
-
-pub takes_le : (rows : List Row) (i j : ℕ) → AreLight rows → length rows ≤ 200000 → takes rows i j ≤ 200000000000000000
-takes_le rows i j light few =
-    let a : takes rows i j ≤ sum_by weight rows = sum_by-le-sum_by (lessened i j) weight rows (λ row. cond_le (lessens row i j) (weight row)) in
-    let b : sum_by weight rows ≤ length rows * 1000000000000 = sum_by-le weight 1000000000000 rows light in
-    omega arith
 
 -- one more row
 pub gives_more : (S : List Point) (rows : List Row) (k : ℕ) (row : Row) (i j : ℕ) (b : Bool) → row ≡ get_or rows k row → k < length rows → (IsTrue b ↔ Counts S row i j)

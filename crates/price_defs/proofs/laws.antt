@@ -5,3 +5,4 @@ pub mod Counted
 pub mod Duality
 pub mod Nearest
 pub mod Values
+pub mod Alone

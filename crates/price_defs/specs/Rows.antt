@@ -1,5 +1,5 @@
 -- The rows of a certificate: which are right, and what they count. (This project's own choice of rows of a linear program.)
-use Rattle.std.specs.Prelude.{◌≡◌, ◌≢◌, ℕ, ◌<◌, ◌⊎◌, List, length, Option, Some, None, Bool, false, not, ◌&&◌, ◌||◌, nat_eq, int_lt, pos}
+use Rattle.std.specs.Prelude.{◌≡◌, ◌≢◌, ℕ, ◌<◌, ◌⊎◌, List, length, slice_index_or, Option, Some, None, Bool, false, not, ◌&&◌, ◌||◌, nat_eq, int_lt, pos}
 use Rattle.std.specs.Ordering.{int_eq}
 use Rattle.std.specs.List.{All}
 use Rattle.plane.specs.declared.coordinates.Point.{Point}
@@ -75,3 +75,7 @@ is_at p (Half u q w) = nat_eq u p
 is_at p (Three u w) = nat_eq u p
 is_at p (Cross e f w) = false
 is_at p (Cap e w) = false
+
+-- the row at a position
+abbrev pub row_at : List Row → ℕ → Row
+row_at rows k = slice_index_or rows k (Three 0 0)

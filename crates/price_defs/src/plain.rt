@@ -1,5 +1,6 @@
 // The plain slow program: it computes the definitions by trying all rows and points.
 ghost use Rattle.std.specs.Prelude.{◌≡◌, ◌↔◌, ◌<◌, ◌≤◌, length, IsTrue, ℕ};
+ghost use Rattle.std.specs.List.{All};
 ghost use Rattle.plane.specs.Geometry.{IsBetween};
 ghost use Rattle.price_defs.specs.Rows.{IsRight, AreRight, IsAlone, weight, stand, Counts, Lessens};
 ghost use Rattle.price_defs.specs.Loads.{gives, takes, load, value, added, lost};
@@ -169,6 +170,13 @@ pub fn is_indexed(points: &Points, row: Row) -> bool
         Row::Cross { e, f, w: _ } => e.hi() < count && f.hi() < count,
         Row::Cap { e, w: _ } => e.hi() < count,
     }
+}
+
+/// Whether all rows speak of points of the list alone.
+pub fn are_indexed(points: &Points, rows: &[Row]) -> bool
+    ensures { IsTrue result ↔ All (IsIndexed points.now) rows.now }
+{
+    rows.iter().all(|row| is_indexed(points, *row))
 }
 
 // Whether the row is right, whatever it speaks of.

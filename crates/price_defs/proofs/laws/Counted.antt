@@ -19,7 +19,7 @@ use Rattle.price_defs.proofs.laws.Sums.{sum-add, sum-zero, sum-le_on, sum-one_of
 use Rattle.price_defs.proofs.laws.Tests.{same_pair, same_pair_decides, counts_decides, lessens_decides}
 use Rattle.price_defs.proofs.laws.Sides.{three_at, border_turned}
 
-given_yes : (S : List Point) (row : Row) (i j : ℕ) → Counts S row i j → given S i j row ≡ weight row
+pub given_yes : (S : List Point) (row : Row) (i j : ℕ) → Counts S row i j → given S i j row ≡ weight row
 given_yes S row i j h = ap (λ t. cond t (weight row) 0) ((counts_decides S row i j).1 h)
 
 pub given_no : (S : List Point) (row : Row) (i j : ℕ) → ¬ Counts S row i j → given S i j row ≡ 0

@@ -1,14 +1,15 @@
 -- The sums under a value are small.
-use Rattle.std.proofs.Common.{◌≡◌, ℕ, ◌+◌, ◌*◌, ◌<◌, ◌≤◌, List, length, get_or, take, ap, arith}
+use Rattle.std.proofs.Common.{◌≡◌, ℕ, ◌+◌, ◌*◌, ◌<◌, ◌≤◌, List, length, get_or, take, Bool, true, false, cond, ap, arith}
 use Rattle.std.specs.List.{sum_by}
 use Rattle.std.specs.Int.{div_ceil}
 use Rattle.std.proofs.Math.Nat.{mul-le-mul_left, mul_comm}
-use Rattle.std.proofs.lemmas.List.Sums.{sum_by_more_le, sum_by-le}
+use Rattle.std.proofs.lemmas.List.Sums.{sum_by_more_le, sum_by-le, sum_by-le-sum_by}
 use Rattle.std.proofs.lemmas.List.Elements.{All-weaker}
 use Rattle.price_defs.specs.declared.row.Row.{Row}
 use Rattle.price_defs.specs.declared.row.Row.TheVariants.{Half, Three, Cross, Cap}
-use Rattle.price_defs.specs.Rows.{weight}
-use Rattle.price_defs.specs.Loads.{added, lost}
+use Rattle.plane.specs.declared.coordinates.Point.{Point}
+use Rattle.price_defs.specs.Rows.{counts, lessens, weight}
+use Rattle.price_defs.specs.Loads.{given, lessened, gives, takes, added, lost}
 use Rattle.price_defs.proofs.laws.Duality.{ceil-le}
 use Rattle.price_defs.specs.Limits.{AreLight}
 
@@ -44,3 +45,20 @@ added_total = sum_small added added_light
 
 pub ceil_small : (x q : ℕ) → 0 < q → div_ceil x q ≤ x
 ceil_small x q h = ceil-le x q x h (let k : x * 1 ≤ x * q = mul-le-mul_left x h in omega (arith, mul_comm x q))
+
+cond_le : (b : Bool) (w : ℕ) → cond b w 0 ≤ w
+cond_le true w = omega arith
+cond_le false w = omega arith
+
+-- no load is too great
+pub gives_le : (S : List Point) (rows : List Row) (i j : ℕ) → AreLight rows → length rows ≤ 200000 → gives S rows i j ≤ 200000000000000000
+gives_le S rows i j light few =
+    let a : gives S rows i j ≤ sum_by weight rows = sum_by-le-sum_by (given S i j) weight rows (λ row. cond_le (counts S row i j) (weight row)) in
+    let b : sum_by weight rows ≤ length rows * 1000000000000 = sum_by-le weight 1000000000000 rows light in
+    omega arith
+
+pub takes_le : (rows : List Row) (i j : ℕ) → AreLight rows → length rows ≤ 200000 → takes rows i j ≤ 200000000000000000
+takes_le rows i j light few =
+    let a : takes rows i j ≤ sum_by weight rows = sum_by-le-sum_by (lessened i j) weight rows (λ row. cond_le (lessens row i j) (weight row)) in
+    let b : sum_by weight rows ≤ length rows * 1000000000000 = sum_by-le weight 1000000000000 rows light in
+    omega arith

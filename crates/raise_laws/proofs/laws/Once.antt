@@ -40,7 +40,7 @@ rising_same (x ∷ xs) (y ∷ ys) h k same =
       λ c. elim (contains_cases x xs z ((same z).1 (contains_later y ys z c))) [ inl f ↦ absurd (omega (arith, rising_head y ys z k c)) | inr m ↦ m ],
     )))
 
-inner_once : (S : List Point) (a b : List ℕ) → IsInnerList S a → IsInnerList S b → a ≡ b
+pub inner_once : (S : List Point) (a b : List ℕ) → IsInnerList S a → IsInnerList S b → a ≡ b
 inner_once S a b x y = rising_same a b x.ascending y.ascending (λ z. (λ c. (y.exact z).1 ((x.exact z).0 c), λ c. (x.exact z).1 ((y.exact z).0 c)))
 
 least_once : (S : List Point) (D : List Costed) (p m n : ℕ) → IsLeastCost S D p m → IsLeastCost S D p n → m ≡ n

@@ -1,6 +1,6 @@
 use Rattle.std.proofs.Common.{arith}
 use Rattle.std.proofs.lemmas.Int.{ints}
-use Rattle.price_defs.proofs.Steps.{gives_le, takes_le}
+use Rattle.price_defs.proofs.laws.Values.{gives_le, takes_le}
 use Rattle.price_defs.proofs.plain.load_of.Goals as goal
 
 pub overflow_cast-result : goal.overflow_cast-result

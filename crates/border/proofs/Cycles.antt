@@ -12,15 +12,15 @@ use Rattle.plane.proofs.laws.Border.{border_of_left, step_of_border, inner_by_st
 use Rattle.plane_laws.specs.Order.{IsBefore}
 use Rattle.plane_laws.proofs.Between.{by_order}
 use Rattle.border.specs.Cycle.{at, after, IsBorderCycle}
-use Rattle.border.specs.Walk.{seen, AreEnds, IsTrail, HasWalked}
+use Rattle.border.specs.Walk.{seen, AreFirstAndLast, IsTrail, HasWalked}
 use Rattle.border.proofs.Lower.{not_back, not_self}
 use Rattle.border.proofs.Turned.{turned_back, back_turned, same_place}
 use Rattle.border.proofs.Trails.{trail_order, trail_inside, trail_meets}
 
-pub ends_true : (S : List Point) (m M : ℕ) → m < length S → M < length S → ((k : ℕ) → k < length S → k ≢ m → IsBefore (seen S true m) (seen S true k)) → ((k : ℕ) → k < length S → k ≢ M → IsBefore (seen S false M) (seen S false k)) → AreEnds S true m M
+pub ends_true : (S : List Point) (m M : ℕ) → m < length S → M < length S → ((k : ℕ) → k < length S → k ≢ m → IsBefore (seen S true m) (seen S true k)) → ((k : ℕ) → k < length S → k ≢ M → IsBefore (seen S false M) (seen S false k)) → AreFirstAndLast S true m M
 ends_true S m M hm hM first last = record { from_in = hm; to_in = hM; first = first; last = λ k h ne. back_turned (point S M) (point S k) (last k h ne) }
 
-pub ends_false : (S : List Point) (m M : ℕ) → m < length S → M < length S → ((k : ℕ) → k < length S → k ≢ m → IsBefore (seen S true m) (seen S true k)) → ((k : ℕ) → k < length S → k ≢ M → IsBefore (seen S false M) (seen S false k)) → AreEnds S false M m
+pub ends_false : (S : List Point) (m M : ℕ) → m < length S → M < length S → ((k : ℕ) → k < length S → k ≢ m → IsBefore (seen S true m) (seen S true k)) → ((k : ℕ) → k < length S → k ≢ M → IsBefore (seen S false M) (seen S false k)) → AreFirstAndLast S false M m
 ends_false S m M hm hM first last = record { from_in = hM; to_in = hm; first = last; last = λ k h ne. turned_back (point S k) (point S m) (first k h ne) }
 
 after_more : (n i : ℕ) → i + 1 < n → after n i ≡ i + 1
@@ -49,7 +49,7 @@ record Round (S : List Point) (m M : ℕ) (B : List ℕ) : Type 0 where
   distinct : AllPairs (λ v w. v ≢ w) B
   covered : (v w : ℕ) → v < length S → IsBorderStep S Left v w → (i : ℕ) × (i < length B) × (at B i ≡ v)
 
-round_of : (S : List Point) (m M : ℕ) (C D : List ℕ) → AreAccepted S → AreEnds S true m M → AreEnds S false M m → 0 < length C → 0 < length D → IsTrail S true m (C ++ M ∷ []) → IsTrail S false M (D ++ m ∷ []) → Round S m M (C ++ D)
+round_of : (S : List Point) (m M : ℕ) (C D : List ℕ) → AreAccepted S → AreFirstAndLast S true m M → AreFirstAndLast S false M m → 0 < length C → 0 < length D → IsTrail S true m (C ++ M ∷ []) → IsTrail S false M (D ++ m ∷ []) → Round S m M (C ++ D)
 round_of S m M C D accepted there back some_c some_d up down =
     let B = C ++ D in
     let len : length B ≡ length C + length D = length-append C D in
@@ -114,7 +114,7 @@ round_of S m M C D accepted there back some_c some_d up down =
           (λ off. (let (i, h, e) = trail_meets S false M m v w D accepted back down hv step (turned_back (point S v) (point S w) off) in (length C + i, omega arith, high i h ∙ e)));
     }
 
-cycle_from : (S : List Point) (m M : ℕ) (B : List ℕ) → AreEnds S true m M → Round S m M B → IsBorderCycle S B
+cycle_from : (S : List Point) (m M : ℕ) (B : List ℕ) → AreFirstAndLast S true m M → Round S m M B → IsBorderCycle S B
 cycle_from S m M B ends round = record {
   first = (subst (λ x. x < length S) (sym round.begins) ends.from_in, λ k h ne. subst (λ x. IsBefore (point S x) (point S k)) (sym round.begins) (ends.first k h (λ e. ne (e ∙ sym round.begins))));
   distinct = round.distinct;
@@ -149,7 +149,7 @@ cycle_from S m M B ends round = record {
     next : (i v w : ℕ) → i < length B → at B i ≡ v → IsBorderStep S Left v w → at B (after (length B) i) ≡ w
     next i v w h e step = left_step_once S v (at B (after (length B) i)) w round.accepted (subst (λ x. x < length S) e (round.inside i h)) (subst (λ x. IsBorderStep S Left x (at B (after (length B) i))) e (round.steps i h)) step
 
-pub cycle_of : (S : List Point) (m M : ℕ) (A B : List ℕ) → AreAccepted S → AreEnds S true m M → AreEnds S false M m → HasWalked S true m M [] A → HasWalked S false M m A B → IsBorderCycle S B
+pub cycle_of : (S : List Point) (m M : ℕ) (A B : List ℕ) → AreAccepted S → AreFirstAndLast S true m M → AreFirstAndLast S false M m → HasWalked S true m M [] A → HasWalked S false M m A B → IsBorderCycle S B
 cycle_of S m M A B accepted there back (C, some_c, a, up) (D, some_d, b, down) =
     let is : B ≡ C ++ D = b ∙ ap (λ xs. xs ++ D) a in
     subst (IsBorderCycle S) (sym is) (cycle_from S m M (C ++ D) there (round_of S m M C D accepted there back some_c some_d up down))

@@ -14,7 +14,7 @@ use Rattle.plane.specs.Accepted.{AreAccepted}
 use Rattle.plane_laws.specs.Order.{IsBefore}
 use Rattle.plane_laws.proofs.Between.{by_order}
 use Rattle.border.specs.Cycle.{at}
-use Rattle.border.specs.Walk.{seen, AreEnds, IsTrail, CanGoOn}
+use Rattle.border.specs.Walk.{seen, AreFirstAndLast, IsTrail, CanGoOn}
 use Rattle.border.proofs.Lower.{not_back, not_self, no_overlap, leads_on}
 use Rattle.border.proofs.Turned.{step_of, lower_of, same_place}
 use Rattle.plane_laws.proofs.Order.{before_trans}
@@ -82,7 +82,7 @@ must_go_on S b v hv ((m, hm, vm), start) none =
     none x (step_of S b v x low)
 
 -- the ends differ
-pub ends_differ : (S : List Point) (b : Bool) (from to : ℕ) → AreAccepted S → AreEnds S b from to → from ≢ to
+pub ends_differ : (S : List Point) (b : Bool) (from to : ℕ) → AreAccepted S → AreFirstAndLast S b from to → from ≢ to
 ends_differ S b from to accepted ends same = elim (other from) [ inl h ↦ clash 0 (omega (arith, accepted.count.0)) h | inr h ↦ clash 1 (omega (arith, accepted.count.0)) h ]
   where
     other : (v : ℕ) → (0 ≢ v) ⊎ (1 ≢ v)
@@ -92,7 +92,7 @@ ends_differ S b from to accepted ends same = elim (other from) [ inl h ↦ clash
     clash k h ne = not_back (seen S b from) (seen S b k) (ends.first k h ne) (subst (λ t. IsBefore (seen S b k) (seen S b t)) (sym same) (ends.last k h (λ e. ne (e ∙ sym same))))
 
 -- a walk goes on from each point but the last
-pub trail_can : (S : List Point) (b : Bool) (from to v : ℕ) (C : List ℕ) → AreEnds S b from to → IsTrail S b from (C ++ v ∷ []) → v < length S → v ≢ to → CanGoOn S b v
+pub trail_can : (S : List Point) (b : Bool) (from to v : ℕ) (C : List ℕ) → AreFirstAndLast S b from to → IsTrail S b from (C ++ v ∷ []) → v < length S → v ≢ to → CanGoOn S b v
 trail_can S b from to v C ends so hv ne = ((to, ends.to_in, ends.last v hv ne), start C so)
   where
     none_before : (p : ℕ) → p < length S → ¬ IsBefore (seen S b p) (seen S b from)
@@ -114,7 +114,7 @@ trail_can S b from to v C ends so hv ne = ((to, ends.to_in, ends.last v hv ne), 
         inr (at D k, subst (λ x. IsBorderStep S Left (at D k) x) end (so.steps k (omega arith)), subst (λ x. IsBefore (seen S b (at D k)) (seen S b x)) end (so.rises k (omega arith)))
 
 -- a walk between the ends meets each point from which a step leads on
-pub trail_meets : (S : List Point) (b : Bool) (from to a c : ℕ) (C : List ℕ) → AreAccepted S → AreEnds S b from to → IsTrail S b from (C ++ to ∷ []) → a < length S → IsBorderStep S Left a c → IsBefore (seen S b a) (seen S b c) → (i : ℕ) × (i < length C) × (at (C ++ to ∷ []) i ≡ a)
+pub trail_meets : (S : List Point) (b : Bool) (from to a c : ℕ) (C : List ℕ) → AreAccepted S → AreFirstAndLast S b from to → IsTrail S b from (C ++ to ∷ []) → a < length S → IsBorderStep S Left a c → IsBefore (seen S b a) (seen S b c) → (i : ℕ) × (i < length C) × (at (C ++ to ∷ []) i ≡ a)
 trail_meets S b from to a c C accepted ends so ha step leads = look (length C) 0 (omega (arith, length_push C to)) (elim (same from a) [ inl e ↦ inl (so.begins ∙ e) | inr ne ↦ inr (subst (λ x. IsBefore (seen S b x) (seen S b a)) (sym so.begins) (ends.first a ha (λ e. ne (sym e)))) ])
   where
     D : List ℕ

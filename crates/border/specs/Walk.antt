@@ -1,3 +1,4 @@
+-- For private clauses.
 -- A walk along one half of the border: the points are as they are, or turned by half a turn.
 use Rattle.std.specs.Prelude.{◌≡◌, ◌≢◌, ℕ, ◌+◌, ◌<◌, Bool, true, false, ◌⊎◌, List, length, neg_ℤ, [], ◌∷◌, ◌++◌}
 use Rattle.plane.specs.declared.coordinates.Point.{Point}
@@ -15,7 +16,7 @@ abbrev pub seen : List Point → Bool → ℕ → Point
 seen S b i = turned b (point S i)
 
 -- from comes before all others, and to after them
-pub record AreEnds (S : List Point) (b : Bool) (from to : ℕ) : Type 0 where
+pub record AreFirstAndLast (S : List Point) (b : Bool) (from to : ℕ) : Type 0 where
   pub from_in : from < length S
   pub to_in : to < length S
   pub first : (k : ℕ) → k < length S → k ≢ from → IsBefore (seen S b from) (seen S b k)

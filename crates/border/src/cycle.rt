@@ -2,7 +2,7 @@ ghost use Rattle.std.specs.Prelude.{◌≡◌, ◌≢◌, ◌<◌, ◌↔◌, �
 ghost use Rattle.plane.specs.Hull.{IsBorderStep};
 ghost use Rattle.plane_laws.specs.Order.{IsBefore};
 ghost use Rattle.border.specs.Cycle.{IsBorderCycle};
-ghost use Rattle.border.specs.Walk.{seen, AreEnds, CanGoOn, HasWalked};
+ghost use Rattle.border.specs.Walk.{seen, AreFirstAndLast, CanGoOn, HasWalked};
 
 use mcp_outside::NoMemory;
 use plane::{Points, Turn};
@@ -70,7 +70,7 @@ fn walk(
     to: u32,
     list: &mut Vec<u32>,
 ) -> Result<(), NoMemory>
-    requires { AreEnds points.now forward from to }
+    requires { AreFirstAndLast points.now forward from to }
     ensures { OnOk result (HasWalked points.now forward from to list.old.items list.new.items) }
 {
     let mut v = from;

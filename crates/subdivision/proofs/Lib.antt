@@ -2,4 +2,4 @@ pub mod Rows
 pub mod Members
 pub mod Growing
 pub mod Collected
-pub mod Sorting
+pub mod laws

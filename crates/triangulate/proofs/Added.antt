@@ -10,7 +10,7 @@ use Rattle.partition_defs.specs.Partition.{Joins, HasEnds}
 use Rattle.partition_defs.specs.Sweep.{IsSweptBefore}
 use Rattle.triangulate.specs.declared.sweep.Part.{Part}
 use Rattle.triangulate.specs.State.{Side, Links, Whole, Reach}
-use Rattle.triangulate.specs.Swept.{opposite, turn, other_turn, AreJoining, IsJoining, AreWhole, IsSwept, IsSettled, IsNext}
+use Rattle.triangulate.specs.Swept.{opposite, turn, other_turn, AreJoining, IsJoining, AreWhole, IsSwept, IsSettled, IsSweptNext}
 use Rattle.triangulate.proofs.Field.{Setting, up_to_not_before}
 use Rattle.triangulate.proofs.Moves.{start, turned, finish}
 use Rattle.triangulate.proofs.Places.{sweep_setting, plane_laws, opposite_laws, opposite_turned}
@@ -59,7 +59,7 @@ turned_joining S part T l l2 z last k m = record {
   count = other_count (length T) (length l) (length l2) k m.count;
 }
 
-start_chains : (S : List Point) (apart : AreApart S) (T : List Pair) (l l2 : List ℕ) (z last : ℕ) (e : Pair) → HasEnds e last z → IsNext S last z
+start_chains : (S : List Point) (apart : AreApart S) (T : List Pair) (l l2 : List ℕ) (z last : ℕ) (e : Pair) → HasEnds e last z → IsSweptNext S last z
     → AreWhole S T l l2 last → AreJoining S (orientation S) (opposite S) (T ++ e ∷ []) l l2 z last
 start_chains S apart T [] l2 z last e he next h = absurd h
 start_chains S apart T (t ∷ r) [] z last e he next h = absurd h
@@ -68,7 +68,7 @@ start_chains S apart T (t ∷ r) (t2 ∷ r2) z last e he next h =
     (start (sweep_setting S apart) (orientation S) (opposite S) (plane_laws S apart) (opposite_laws S apart) (opposite_turned S) (Joins T) (Joins (T ++ e ∷ [])) r r2 z last
     h.2 next.within next.before next.next (push_adds T e last z he))
 
-start_unjoined : (S : List Point) (apart : AreApart S) (T : List Pair) (l l2 : List ℕ) (z last : ℕ) → IsNext S last z → AreWhole S T l l2 last → ¬ Joins T last z
+start_unjoined : (S : List Point) (apart : AreApart S) (T : List Pair) (l l2 : List ℕ) (z last : ℕ) → IsSweptNext S last z → AreWhole S T l l2 last → ¬ Joins T last z
 start_unjoined S apart T [] l2 z last next h j = h
 start_unjoined S apart T (t ∷ r) [] z last next h j = h
 start_unjoined S apart T (t ∷ r) (t2 ∷ r2) z last next h j =
@@ -78,7 +78,7 @@ start_unjoined S apart T (t ∷ r) (t2 ∷ r2) z last next h j =
 start_count : (T : List Pair) (e : Pair) (l l2 : List ℕ) (k : ℕ) → length T + length l + length l2 + 1 ≡ 3 * k → length (T ++ e ∷ []) + length l + length l2 ≡ 3 * k
 start_count T e l l2 k h = omega (arith, length-append T (e ∷ []))
 
-pub start_joining : (S : List Point) (T : List Pair) (l l2 : List ℕ) (z last k : ℕ) (e : Pair) → e.lo ≡ min last z → e.hi ≡ max last z → IsNext S last z
+pub start_joining : (S : List Point) (T : List Pair) (l l2 : List ℕ) (z last k : ℕ) (e : Pair) → e.lo ≡ min last z → e.hi ≡ max last z → IsSweptNext S last z
     → IsSwept S T l l2 last k → IsJoining S (orientation S) (opposite S) (T ++ e ∷ []) l l2 z last k
 start_joining S T l l2 z last k e hl hh next m =
     let he : HasEnds e last z = ends_of_new e last z hl hh in
@@ -109,5 +109,5 @@ finish_joining S T l l2 z last k m s s2 = record {
 }
 
 -- the new point isn't the last one
-pub next_apart : (S : List Point) (T : List Pair) (l l2 : List ℕ) (z last k : ℕ) → IsNext S last z → IsSwept S T l l2 last k → last ≢ z
+pub next_apart : (S : List Point) (T : List Pair) (l l2 : List ℕ) (z last k : ℕ) → IsSweptNext S last z → IsSwept S T l l2 last k → last ≢ z
 next_apart S T l l2 z last k next m e = let E : Setting = sweep_setting S m.apart in E.irrefl z (subst (λ x. E.B x z) e next.before)

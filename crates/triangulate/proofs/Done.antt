@@ -6,7 +6,8 @@ use Rattle.plane.specs.Accepted.{AreAccepted}
 use Rattle.partition_defs.specs.Triangulation.{AreDistinct}
 use Rattle.partition_defs.specs.Sweep.{IsSweptBefore}
 use Rattle.triangulate.specs.Sides.{UpTo}
-use Rattle.triangulate.specs.Swept.{AreWhole, IsSweptWhole, IsSweepTriangulation}
+use Rattle.triangulate.specs.Swept.{AreWhole, IsSweptWhole}
+use Rattle.triangulate.specs.Start.{IsStart}
 use Rattle.triangulate.proofs.Triangulated.{is_triangulation, are_sweep_pairs, is_sweep_set}
 use Rattle.triangulate.proofs.Border.{triangulation_count}
 
@@ -15,7 +16,7 @@ other_point zero n h = (1, omega arith, λ e. omega arith)
 other_point (suc z) n h = (0, omega arith, λ e. omega arith)
 
 chains_done : (S : List Point) → AreAccepted S → (T : List Pair) (l l2 : List ℕ) (z : ℕ) → AreWhole S T l l2 z → ((s : ℕ) → s < length S → UpTo (IsSweptBefore S) s z)
-    → AreDistinct T → length T + length l + length l2 + 1 ≡ 3 * length S → IsSweepTriangulation S T
+    → AreDistinct T → length T + length l + length l2 + 1 ≡ 3 * length S → IsStart S T
 chains_done S acc T [] l2 z h all d count = absurd h
 chains_done S acc T (t ∷ r) [] z h all d count = absurd h
 chains_done S acc T (t ∷ r) (t2 ∷ r2) z h all d count =
@@ -28,5 +29,5 @@ chains_done S acc T (t ∷ r) (t2 ∷ r2) z h all d count =
       set = is_sweep_set S acc.apart T r r2 z h.2 all;
     }
 
-pub done : (S : List Point) (T : List Pair) (l l2 : List ℕ) → IsSweptWhole S T l l2 → IsSweepTriangulation S T
+pub done : (S : List Point) (T : List Pair) (l l2 : List ℕ) → IsSweptWhole S T l l2 → IsStart S T
 done S T l l2 h = chains_done S h.accepted T l l2 h.z h.swept.chains h.all h.swept.distinct h.swept.count

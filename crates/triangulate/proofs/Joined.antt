@@ -16,7 +16,7 @@ use Rattle.triangulate.specs.declared.sweep.Part.{Part}
 use Rattle.triangulate.specs.declared.sweep.Part.TheVariants.{Lower, Upper}
 use Rattle.triangulate.specs.Chains.{shortened}
 use Rattle.triangulate.specs.State.{Side}
-use Rattle.triangulate.specs.Swept.{opposite, turn, other_turn, AreJoining, IsJoining, IsSeen}
+use Rattle.triangulate.specs.Swept.{opposite, turn, other_turn, AreJoining, IsJoining, SeesLastSide}
 use Rattle.triangulate.proofs.Field.{Setting, Laws, AreTurned, turned_back}
 use Rattle.triangulate.proofs.State.{Adds}
 use Rattle.triangulate.proofs.Step.{step}
@@ -71,7 +71,7 @@ first_apart S apart o w T b a r (t2 ∷ r2) z last h e =
 
 -- the point that is joined next isn't the new one
 pub seen_apart : (S : List Point) (o w : ℕ → ℕ → ℕ → ℤ) (T : List Pair) (l l2 : List ℕ) (z last k a : ℕ)
-    → IsJoining S o w T l l2 z last k → IsSeen o l z a → a ≢ z
+    → IsJoining S o w T l l2 z last k → SeesLastSide o l z a → a ≢ z
 seen_apart S o w T l l2 z last k a m h =
     first_apart S m.apart o w T h.b a h.r l2 z last (subst (λ xs. AreJoining S o w T xs l2 z last) h.is m.chains)
 
@@ -92,7 +92,7 @@ step_count : (T : List Pair) (e : Pair) (b a : ℕ) (r l2 : List ℕ) (k : ℕ) 
 step_count T e b a r l2 k h = omega (arith, length-append T (e ∷ []))
 
 pub step_joining : (S : List Point) (part : Part) (T : List Pair) (l l2 : List ℕ) (z last k a : ℕ) (e : Pair) → e.lo ≡ min a z → e.hi ≡ max a z
-    → IsSeen (turn part S) l z a → IsJoining S (turn part S) (other_turn part S) T l l2 z last k
+    → SeesLastSide (turn part S) l z a → IsJoining S (turn part S) (other_turn part S) T l l2 z last k
     → IsJoining S (turn part S) (other_turn part S) (T ++ e ∷ []) (shortened l) l2 z last k
 step_joining S part T l l2 z last k a e hl hh seen m =
     let he : HasEnds e a z = ends_of_new e a z hl hh in
@@ -106,7 +106,7 @@ step_joining S part T l l2 z last k a e hl hh seen m =
       count = step_count T e seen.b a seen.r l2 k count;
     })
 
-pub shorter : (o : ℕ → ℕ → ℕ → ℤ) (l : List ℕ) (z a : ℕ) → IsSeen o l z a → length (shortened l) < length l
+pub shorter : (o : ℕ → ℕ → ℕ → ℤ) (l : List ℕ) (z a : ℕ) → SeesLastSide o l z a → length (shortened l) < length l
 shorter o l z a h = subst (λ xs. length (shortened xs) < length xs) (sym h.is) (omega arith)
 
 pub shortened_in : (n : ℕ) (l : List ℕ) → All (λ i. i < n) l → All (λ i. i < n) (shortened l)

@@ -10,7 +10,7 @@ use Rattle.partition_defs.specs.Partition.{Joins}
 use Rattle.partition_defs.specs.Sweep.{IsSweptBefore}
 use Rattle.triangulate.specs.Order.{IsSweepOrder}
 use Rattle.triangulate.specs.Sides.{UpTo}
-use Rattle.triangulate.specs.Swept.{opposite, IsSwept, IsNext}
+use Rattle.triangulate.specs.Swept.{opposite, IsSwept, IsSweptNext}
 use Rattle.triangulate.proofs.Field.{Setting, not_both}
 use Rattle.triangulate.proofs.Moves.{first}
 use Rattle.triangulate.proofs.Places.{sweep_setting}
@@ -47,7 +47,7 @@ up_to_index S order p m k hk h = elim (cases_order m k) [
   | inr u ↦ elim u [ inl g ↦ inr (p.rising m k g hk) | inr g ↦ absurd (omega arith) ]
 ]
 
-pub next_of : (S : List Point) (apart : AreApart S) (order : List ℕ) → IsSweepOrder S order → (k : ℕ) → 0 < k → k < length order → IsNext S (get_or order (k - 1) 0) (get_or order k 0)
+pub next_of : (S : List Point) (apart : AreApart S) (order : List ℕ) → IsSweepOrder S order → (k : ℕ) → 0 < k → k < length order → IsSweptNext S (get_or order (k - 1) 0) (get_or order k 0)
 next_of S apart order p k h0 hk = record {
   within = p.within k hk;
   before = p.rising (k - 1) k (omega arith) hk;

@@ -5,7 +5,7 @@ use Rattle.std.specs.List.{All}
 use Rattle.std.proofs.lemmas.List.Elements.{All-head, All-tail}
 use Rattle.std.proofs.lemmas.Int.{by_lt_z}
 use Rattle.triangulate.specs.Chains.{last_side}
-use Rattle.triangulate.specs.Swept.{IsSettled, IsSeen}
+use Rattle.triangulate.specs.Swept.{IsSettled, SeesLastSide}
 
 -- the last side and the points before it
 pub record Ends (l : List ℕ) (a b : ℕ) : Type 0 where
@@ -28,7 +28,7 @@ ends_in n l a b h all =
     let f : All (λ i. i < n) (b ∷ (a ∷ e.r)) = subst (λ xs. All (λ i. i < n) xs) e.is all in
     (All-head (λ i. i < n) a e.r (All-tail (λ i. i < n) b (a ∷ e.r) f), All-head (λ i. i < n) b (a ∷ e.r) f)
 
-pub seen_last : (o : ℕ → ℕ → ℕ → ℤ) (l : List ℕ) (z a b : ℕ) → last_side l ≡ Some (a, b) → o a b z <ℤ pos 0 → IsSeen o l z a
+pub seen_last : (o : ℕ → ℕ → ℕ → ℤ) (l : List ℕ) (z a b : ℕ) → last_side l ≡ Some (a, b) → o a b z <ℤ pos 0 → SeesLastSide o l z a
 seen_last o l z a b h p = let e : Ends l a b = ends_of l a b h in record { b = b; r = e.r; is = e.is; right = p }
 
 weak_of : (x : ℤ) → ¬ (x <ℤ pos 0) → pos 0 ≤ℤ x

@@ -9,7 +9,7 @@ use Rattle.partition_defs.specs.Sets.{AreSame}
 use Rattle.subdivision.specs.State.{State, IsSubdivision}
 use Rattle.subdivision.specs.Listing.{IsSortedFrom}
 use Rattle.partition_defs.proofs.laws.Joined.{triangulation_same, same_lists, among_joins}
-use Rattle.subdivision.proofs.Sorting.{sorted_ascends}
+use Rattle.subdivision.proofs.laws.Sorting.{sorted_ascends}
 use Rattle.triangulate.specs.Start.{IsStart, IsSortedStart}
 
 same_members : (T U : List Pair) → ((e : Pair) → Contains U e ↔ Contains T e) → AreSame T U

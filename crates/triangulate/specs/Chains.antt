@@ -1,3 +1,4 @@
+-- For private clauses.
 -- Chains of points, the last point first.
 use Rattle.std.specs.Prelude.{ℕ, List, [], ◌∷◌, Option, Some, None}
 

@@ -1,3 +1,4 @@
+-- For private clauses.
 -- The order in which the sweep meets the points.
 use Rattle.std.specs.Prelude.{◌≡◌, ℕ, ◌<◌, List, length, slice_index, slice_index_or}
 use Rattle.std.specs.List.{All, Contains}

@@ -1,3 +1,4 @@
+-- For private clauses.
 -- Sides, pairs and triangles among n points that an order B and the signs of three of them tell. (Textbook.)
 use Rattle.std.specs.Prelude.{◌≡◌, ◌≢◌, ℕ, ℤ, pos, ◌<◌, ◌⊎◌, ◌<ℤ◌, ◌≤ℤ◌}
 use Rattle.plane.specs.Geometry.{AreOpposite}

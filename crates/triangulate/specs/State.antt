@@ -1,3 +1,4 @@
+-- For private clauses.
 -- The sweep's state: the pairs so far, and the lower and the upper chain of the border, each as its last point and the ones before.
 use Rattle.std.specs.Prelude.{◌≡◌, ◌≢◌, ℕ, ℤ, pos, ◌<◌, ◌⊎◌, ◌<ℤ◌, ◌≤ℤ◌, List, [], ◌∷◌}
 use Rattle.triangulate.specs.Sides.{UpTo, AllLeft, Clear, Beyond, Cross, Empty}

@@ -1,3 +1,4 @@
+-- For private clauses.
 -- The sweep's state over a list of points: the pairs so far, and the lower and the upper chain, the last point first.
 use Rattle.std.specs.Prelude.{◌≡◌, ◌+◌, ◌*◌, ◌<◌, ℕ, ℤ, pos, neg_ℤ, ◌<ℤ◌, List, [], ◌∷◌, length}
 use Rattle.plane.specs.declared.coordinates.Point.{Point}
@@ -5,13 +6,12 @@ use Rattle.plane.specs.declared.segment.Pair.{Pair}
 use Rattle.plane.specs.Geometry.{orientation}
 use Rattle.plane.specs.Accepted.{AreApart, AreAccepted}
 use Rattle.partition_defs.specs.Partition.{Joins}
-use Rattle.partition_defs.specs.Triangulation.{AreDistinct, IsTriangulation, HasTriangulationCount}
-use Rattle.partition_defs.specs.Sweep.{IsSweptBefore, AreSweepPairs}
+use Rattle.partition_defs.specs.Triangulation.{AreDistinct}
+use Rattle.partition_defs.specs.Sweep.{IsSweptBefore}
 use Rattle.triangulate.specs.declared.sweep.Part.{Part}
 use Rattle.triangulate.specs.declared.sweep.Part.TheVariants.{Lower, Upper}
 use Rattle.triangulate.specs.Sides.{UpTo}
 use Rattle.triangulate.specs.State.{Whole, Joining, Settled}
-use Rattle.triangulate.specs.SweepSet.{IsSweepSet}
 
 -- the orientation turned over
 abbrev pub opposite : List Point → (p q r : ℕ) → ℤ
@@ -58,14 +58,14 @@ IsSettled o [] z = Unit {0}
 IsSettled o (t ∷ r) z = Settled o t r z
 
 -- z sees the last side of the chain, which begins at a
-pub record IsSeen (o : ℕ → ℕ → ℕ → ℤ) (l : List ℕ) (z a : ℕ) : Type 0 where
+pub record SeesLastSide (o : ℕ → ℕ → ℕ → ℤ) (l : List ℕ) (z a : ℕ) : Type 0 where
   pub b : ℕ
   pub r : List ℕ
   pub is : l ≡ b ∷ (a ∷ r)
   pub right : o a b z <ℤ pos 0
 
 -- z is the next point after the point last
-pub record IsNext (S : List Point) (last z : ℕ) : Type 0 where
+pub record IsSweptNext (S : List Point) (last z : ℕ) : Type 0 where
   pub within : z < length S
   pub before : IsSweptBefore S last z
   pub next : (s : ℕ) → s < length S → IsSweptBefore S s z → UpTo (IsSweptBefore S) s last
@@ -76,11 +76,3 @@ pub record IsSweptWhole (S : List Point) (T : List Pair) (l l2 : List ℕ) : Typ
   pub z : ℕ
   pub swept : IsSwept S T l l2 z (length S)
   pub all : (s : ℕ) → s < length S → UpTo (IsSweptBefore S) s z
-
--- a triangulation of sweep pairs
-pub record IsSweepTriangulation (S : List Point) (T : List Pair) : Type 0 where
-  pub distinct : AreDistinct T
-  pub triangulation : IsTriangulation S T
-  pub count : HasTriangulationCount S T
-  pub sweep : AreSweepPairs S T
-  pub set : IsSweepSet S T

@@ -1,10 +1,7 @@
 // The start: the sweep triangulation as a subdivision, and as an ascending list.
 ghost use Rattle.std.specs.Prelude.{◌≡◌, IfOk, OnOk};
-ghost use Rattle.partition_defs.specs.Triangulation.{AreDistinct, IsTriangulation, HasTriangulationCount};
-ghost use Rattle.partition_defs.specs.Sweep.{AreSweepPairs};
 ghost use Rattle.partition_defs.specs.Ascending.{IsAscending};
 ghost use Rattle.subdivision.specs.State.{IsSubdivision};
-ghost use Rattle.triangulate.specs.SweepSet.{IsSweepSet};
 ghost use Rattle.triangulate.specs.Start.{IsStart, IsSortedStart};
 
 use crate::sweep::sweep_pairs;
@@ -17,11 +14,7 @@ use subdivision::Subdivision;
 /// triangulation. (This project's own choice of a fixed start, after the textbook's sweep.)
 pub fn start_pairs(alloc: Global, points: &Points) -> Result<Vec<Pair>, NoMemory>
     ensures ascending { IfOk result (λ list. IsAscending list.items) }
-    ensures distinct { IfOk result (λ list. AreDistinct list.items) }
-    ensures triangulation { IfOk result (λ list. IsTriangulation points.now list.items) }
-    ensures count { IfOk result (λ list. HasTriangulationCount points.now list.items) }
-    ensures sweep { IfOk result (λ list. AreSweepPairs points.now list.items) }
-    ensures set { IfOk result (λ list. IsSweepSet points.now list.items) }
+    ensures start { IfOk result (λ list. IsStart points.now list.items) }
 {
     let mut list = sweep_pairs(alloc, points)?;
     sort(points, &mut list)?;
@@ -41,10 +34,7 @@ fn sort(points: &Points, list: &mut Vec<Pair>) -> Result<(), NoMemory>
 pub fn start(alloc: Global, points: &Points) -> Result<Subdivision, NoMemory>
     ensures points { IfOk result (λ s. s.points ≡ points.now) }
     ensures kept { IfOk result (λ s. s.kept ≡ s.all) }
-    ensures triangulation { IfOk result (λ s. IsTriangulation points.now s.all) }
-    ensures count { IfOk result (λ s. HasTriangulationCount points.now s.all) }
-    ensures sweep { IfOk result (λ s. AreSweepPairs points.now s.all) }
-    ensures set { IfOk result (λ s. IsSweepSet points.now s.all) }
+    ensures start { IfOk result (λ s. IsStart points.now s.all) }
     ensures subdivision { IfOk result IsSubdivision }
 {
     let list = start_pairs(alloc, points)?;

@@ -2,11 +2,9 @@
 ghost use Rattle.std.specs.Prelude.{◌≡◌, ◌<◌, ℕ, List, length, IsTrue, ◌↔◌, pos, ◌<ℤ◌, MatchOption, IfOk, [], ◌∷◌, ◌+◌};
 ghost use Rattle.std.specs.List.{All};
 ghost use Rattle.plane.specs.Accepted.{AreAccepted};
-ghost use Rattle.partition_defs.specs.Triangulation.{AreDistinct, IsTriangulation, HasTriangulationCount};
-ghost use Rattle.partition_defs.specs.Sweep.{AreSweepPairs};
 ghost use Rattle.triangulate.specs.Order.{IsSweepOrder};
-ghost use Rattle.triangulate.specs.SweepSet.{IsSweepSet};
-ghost use Rattle.triangulate.specs.Swept.{turn, other_turn, IsJoining, IsSettled, IsSeen, IsSwept, IsNext, IsSweptWhole};
+ghost use Rattle.triangulate.specs.Start.{IsStart};
+ghost use Rattle.triangulate.specs.Swept.{turn, other_turn, IsJoining, IsSettled, SeesLastSide, IsSwept, IsSweptNext, IsSweptWhole};
 
 use crate::chain::Chain;
 use crate::order::sweep_order;
@@ -37,7 +35,7 @@ fn is_beyond(points: &Points, part: Part, a: u32, b: u32, z: u32) -> bool
 fn next_seen(points: &Points, part: Part, chain: &Chain, z: u32) -> Option<u32>
     requires chain_in { All (λ i. i < length points.now) chain.now }
     requires z_in { z < length points.now }
-    ensures { MatchOption result (IsSettled (turn part points.now) chain.now z) (λ a. IsSeen (turn part points.now) chain.now z a) }
+    ensures { MatchOption result (IsSettled (turn part points.now) chain.now z) (λ a. SeesLastSide (turn part points.now) chain.now z a) }
 {
     let (a, b) = chain.last_side()?;
     if is_beyond(points, part, a, b, z) {
@@ -94,7 +92,7 @@ impl Sweep {
 
     // Joins the next point, z, to all points of the border that it sees.
     fn add(&mut self, points: &Points, last: u32, z: u32) -> Result<(), AllocError>
-        requires next { IsNext points.now last z }
+        requires next { IsSweptNext points.now last z }
         requires swept { (k : ℕ) × IsSwept points.now self.old.pairs.items self.old.lower self.old.upper last k }
         ensures { IfOk result (λ _. (k : ℕ) → IsSwept points.now self.old.pairs.items self.old.lower self.old.upper last k → IsSwept points.now self.new.pairs.items self.new.lower self.new.upper z (k + 1)) }
     {
@@ -124,11 +122,7 @@ fn sweep_through(alloc: Global, points: &Points, order: &[u32]) -> Result<Sweep,
 /// all points before it that it sees. With n points of which h segments are on the border, there are 3n - 3 - h.
 /// (This project's own choice of a fixed start, after the textbook's sweep.)
 pub fn sweep_pairs(alloc: Global, points: &Points) -> Result<Vec<Pair>, AllocError>
-    ensures distinct { IfOk result (λ v. AreDistinct v.items) }
-    ensures triangulation { IfOk result (λ v. IsTriangulation points.now v.items) }
-    ensures count { IfOk result (λ v. HasTriangulationCount points.now v.items) }
-    ensures sweep { IfOk result (λ v. AreSweepPairs points.now v.items) }
-    ensures set { IfOk result (λ v. IsSweepSet points.now v.items) }
+    ensures { IfOk result (λ v. IsStart points.now v.items) }
 {
     let order = sweep_order(alloc, points)?;
     let sweep = sweep_through(alloc, points, &order)?;

@@ -1,5 +1,5 @@
 use Rattle.std.proofs.Common.{get_or, ◌+◌, arith}
-use Rattle.subdivision.proofs.Sorting.{not_first, sorted_from}
+use Rattle.subdivision.proofs.laws.Sorting.{not_first, sorted_from}
 use Rattle.subdivision.proofs.listing.sort.Goals as goal
 
 pub returns : goal.returns

@@ -3,12 +3,12 @@ use Rattle.plane.specs.Geometry.{orientation}
 use Rattle.plane.specs.declared.coordinates.Point.{Point}
 use Rattle.plane.specs.declared.segment.Pair.{Pair}
 use Rattle.triangulate.specs.declared.sweep.Part.TheVariants.{Lower, Upper}
-use Rattle.triangulate.specs.Swept.{opposite, IsJoining, IsSwept, IsNext}
+use Rattle.triangulate.specs.Swept.{opposite, IsJoining, IsSwept, IsSweptNext}
 use Rattle.triangulate.proofs.Added.{start_joining, turned_joining, finish_joining, next_apart}
 use Rattle.triangulate.proofs.sweep.Sweep.add.Goals as goal
 
 -- the pairs with the first one of the new point
-started : (S : List Point) (T T2 : List Pair) (l l2 : List ℕ) (z last k : ℕ) (e : Pair) → T2 ≡ T ++ e ∷ [] → e.lo ≡ min last z → e.hi ≡ max last z → IsNext S last z
+started : (S : List Point) (T T2 : List Pair) (l l2 : List ℕ) (z last k : ℕ) (e : Pair) → T2 ≡ T ++ e ∷ [] → e.lo ≡ min last z → e.hi ≡ max last z → IsSweptNext S last z
     → IsSwept S T l l2 last k → IsJoining S (orientation S) (opposite S) T2 l l2 z last k
 started S T T2 l l2 z last k e is hl hh next m =
     subst (λ x. IsJoining S (orientation S) (opposite S) x l l2 z last k) (sym is) (start_joining S T l l2 z last k e hl hh next m)

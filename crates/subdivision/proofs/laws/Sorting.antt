@@ -11,15 +11,13 @@ use Rattle.std.proofs.lemmas.List.Sorted.{Contains-permutation, IsPermutation-sy
 use Rattle.std.proofs.lemmas.Map.Keys.{IsDistinct-IsPermutation}
 use Rattle.std.proofs.lemmas.Map.Made.{AllPairs-from_IsDistinct, IsDistinct-from_AllPairs}
 use Rattle.plane.specs.declared.segment.Pair.{Pair}
-use Rattle.std.proofs.lemmas.Int.{ints}
 use Rattle.std.proofs.lemmas.List.{get_or_default}
 use Rattle.plane.specs.declared.coordinates.Point.{Point}
 use Rattle.plane.specs.Geometry.{point}
-use Rattle.plane.proofs.laws.Area.{area_swap}
 use Rattle.plane.proofs.laws.Pairs.{pair_same}
-use Rattle.star.specs.Turn.{TurnsBefore, IsBeforeInTurn}
+use Rattle.star.specs.Turn.{IsBeforeInTurn}
 use Rattle.star.specs.Stars.{Seen, entry}
-use Rattle.star.proofs.laws.Turning.{not_both, never_before_itself}
+use Rattle.star.proofs.laws.Turning.{never_before_itself}
 use Rattle.partition_defs.specs.Ascending.{ComesFirst, IsAscending}
 use Rattle.subdivision.specs.State.{star_at, has, keeps, AreAgreed}
 use Rattle.subdivision.specs.Listing.{picks, picked_of, IsTidy, AreTidy, HasRows, IsSortedFrom}

@@ -3,7 +3,6 @@ use Rattle.std.proofs.Common.{◌≡◌, ℕ, ◌+◌, ◌↔◌, List, length, 
 use Rattle.std.specs.List.{Contains}
 use Rattle.plane.specs.declared.coordinates.Point.{Point}
 use Rattle.plane.specs.declared.segment.Pair.{Pair}
-use Rattle.partition_defs.specs.Partition.{Joins}
 use Rattle.partition_defs.specs.Ascending.{IsAscending}
 use Rattle.partition_defs.specs.Sets.{AreSame}
 use Rattle.subdivision.specs.State.{State, IsSubdivision}

@@ -1,0 +1,4 @@
+mod Taking
+mod Links
+mod Chains
+mod Kept

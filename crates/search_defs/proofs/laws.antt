@@ -1,0 +1,4 @@
+pub mod Trials
+pub mod Scaled
+pub mod Elsewhere
+pub mod Once

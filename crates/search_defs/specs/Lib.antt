@@ -1,0 +1,4 @@
+pub mod Words
+pub mod Priced
+pub mod Best
+pub mod Laws

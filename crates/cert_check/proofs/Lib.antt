@@ -1,0 +1,4 @@
+mod Turning
+mod BorderCosts
+mod Overloads
+mod Shapes

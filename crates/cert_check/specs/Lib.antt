@@ -1,0 +1,4 @@
+pub mod Answers
+pub mod BorderCosts
+pub mod Shapes
+pub mod Overloads

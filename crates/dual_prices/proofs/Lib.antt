@@ -1,0 +1,4 @@
+mod Rooms
+mod InPlace
+mod Floors
+mod Tables

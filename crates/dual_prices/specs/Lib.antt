@@ -1,0 +1,4 @@
+pub mod Rooms
+pub mod Floors
+pub mod Kept
+pub mod Tables

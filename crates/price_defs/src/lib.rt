@@ -7,8 +7,8 @@ pub mod row;
 pub mod weak_duality;
 
 pub use plain::{
-    added_of, are_indexed, are_light, are_right, is_alone, is_counted, is_lessened, is_right, load_of, lost_of,
-    reweighed, stand_of, value_of, weight_of,
+    added_of, are_indexed, are_light, are_right, is_alone, is_counted, is_lessened, is_right,
+    load_of, lost_of, reweighed, stand_of, value_of, weight_of,
 };
 pub use row::{Certificate, MOST_DIVISOR, MOST_ROWS, MOST_WEIGHT, Row, RowList};
 

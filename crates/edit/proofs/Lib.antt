@@ -3,3 +3,4 @@ pub mod Rising
 pub mod Shown
 pub mod Rows
 pub mod StarSteps
+pub mod TestStars

@@ -5,3 +5,4 @@ pub mod Plans
 pub mod Lesser
 pub mod BadPlans
 pub mod Steps
+pub mod Round

@@ -17,3 +17,6 @@ pub use following::follow;
 pub use journal_defs::{Claim, Edit, EditList, Why};
 pub use look::Look;
 pub use plan::{BadPlan, Plan};
+
+#[cfg(test)]
+mod tests;

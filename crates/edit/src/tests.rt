@@ -1,0 +1,4 @@
+mod plans;
+mod round;
+mod table;
+mod walk;

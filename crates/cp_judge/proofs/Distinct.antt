@@ -13,7 +13,7 @@ use Rattle.std.proofs.lemmas.Map.Keys.{sorted_from_all_adjacent, IsDistinct-from
 use Rattle.plane.specs.declared.segment.Pair.{Pair}
 use Rattle.plane.specs.First.{ComesBefore}
 use Rattle.partition_defs.specs.Triangulation.{AreDistinct}
-use Rattle.cp_judge.specs.Ascending.{IsAscending}
+use Rattle.cp_judge.specs.Ascending.{RisesByNeighbours}
 
 -- the order of pairs
 abbrev pub pair_cmp : (e f : Pair) → Ordering
@@ -40,17 +40,17 @@ tested_before : (e f : Pair) → ComesBefore e.lo e.hi f.lo f.hi → is_lt (pair
 tested_before e f h = ap is_lt (less_before e f h)
 
 -- the test of neighbours tells whether a list is ascending
-pub ascending_tested : (K : List Pair) (r : Bool) → IsAllAdjacentAnswer (λ e f b. b ≡ is_lt (pair_cmp e f)) K r → IsTrue r ↔ IsAscending K
+pub ascending_tested : (K : List Pair) (r : Bool) → IsAllAdjacentAnswer (λ e f b. b ≡ is_lt (pair_cmp e f)) K r → IsTrue r ↔ RisesByNeighbours K
 ascending_tested K true h = (λ _ k d l. before_tested (get_or K k d) (get_or K (k + 1) d) (sym (h k d l)), λ _. refl)
 ascending_tested K false h =
     let d : Pair = record { lo = 0; hi = 1; ordered = omega arith } in
     (λ t. absurd (false≢true t), λ up. absurd (false≢true (h.2 d ∙ tested_before (get_or K h.0 d) (get_or K (h.0 + 1) d) (up h.0 d h.1))))
 
-distinct_keys : (K : List Pair) (d : Pair) → IsAscending K → IsDistinct (eq_by_cmp pair_cmp) K
+distinct_keys : (K : List Pair) (d : Pair) → RisesByNeighbours K → IsDistinct (eq_by_cmp pair_cmp) K
 distinct_keys K d up = IsDistinct-from_sorted pair_cmp K (sorted_from_all_adjacent pair_total K d (λ k l. less_before (get_or K k d) (get_or K (k + 1) d) (up k d l)))
 
 -- a list is distinct where another with the same pairs is ascending
-pub distinct_reordered : (K L : List Pair) → IsPermutation K L → IsAscending L → AreDistinct K
+pub distinct_reordered : (K L : List Pair) → IsPermutation K L → RisesByNeighbours L → AreDistinct K
 distinct_reordered K L perm up i j d l m e =
     let eq : IsEquivalence (eq_by_cmp pair_cmp) = eq_by_cmp_equiv pair_total in
     let apart : IsDistinct (eq_by_cmp pair_cmp) K =
@@ -58,5 +58,5 @@ distinct_reordered K L perm up i j d l m e =
     let P : Pair → Type 0 = λ f. eq_by_cmp pair_cmp (get_or K i d) f ≡ true in
     false≢true (sym (apart_from_distinct (eq_by_cmp pair_cmp) K i j d apart l m) ∙ subst P e (eq.refl (get_or K i d)))
 
-pub ascending_distinct : (K : List Pair) → IsAscending K → AreDistinct K
+pub ascending_distinct : (K : List Pair) → RisesByNeighbours K → AreDistinct K
 ascending_distinct K up = distinct_reordered K K (IsPermutation-refl K) up

@@ -10,16 +10,16 @@ use Rattle.partition_defs.specs.Partition.{ArePlane}
 use Rattle.partition_defs.specs.Triangulation.{AreDistinct}
 use Rattle.plane.proofs.laws.Area.{area_first, area_second}
 use Rattle.cp_judge.specs.Spans.{HaveCommonEnd}
-use Rattle.cp_judge.specs.Violation.{StandsAt, IsRepeatedAt, IsNotClear, AreCrossingAt, IsCrossing}
+use Rattle.cp_judge.specs.Violation.{IsPairAt, IsRepeatedAt, IsNotClear, AreCrossingAt, IsCrossing}
 use Rattle.plane.proofs.laws.Opposite.{not_opposite_zero, zero_not_opposite}
 
 pub refused : (b : Bool) (P : Type 0) → b ≡ false → (P → b ≡ true) → ¬ P
 refused b P e f p = false≢true (sym e ∙ f p)
 
-pub stands_same : (K : List Pair) (k : ℕ) (e f : Pair) → StandsAt K k e → StandsAt K k f → e ≡ f
+pub stands_same : (K : List Pair) (k : ℕ) (e f : Pair) → IsPairAt K k e → IsPairAt K k f → e ≡ f
 stands_same K k e f g h = sym g.1 ∙ get_or_default K k e f g.0 ∙ h.1
 
-pub stands : (K : List Pair) (k : ℕ) (d : Pair) → k < length K → StandsAt K k (slice_index_or K k d)
+pub stands : (K : List Pair) (k : ℕ) (d : Pair) → k < length K → IsPairAt K k (slice_index_or K k d)
 stands K k d l = (l, get_or_default K k (slice_index_or K k d) d l)
 
 pub distinct_from : (K : List Pair) → ((k : ℕ) → k < length K → ¬ IsRepeatedAt K k) → AreDistinct K
@@ -27,20 +27,20 @@ distinct_from K none i j d l m e =
     let li : i < length K = omega arith in
     none j m (slice_index_or K j d, i, l, (li, get_or_default K i (slice_index_or K j d) d li ∙ e), stands K j d m)
 
-pub not_clear_found : (S : List Point) (K : List Pair) (k : ℕ) (e : Pair) (p : ℕ) → StandsAt K k e
+pub not_clear_found : (S : List Point) (K : List Pair) (k : ℕ) (e : Pair) (p : ℕ) → IsPairAt K k e
     → IsLeast (λ q. IsBetween S q e.lo e.hi) (length S) p
     → ((j : ℕ) (f : Pair) → j < k → slice_index_or K j f ≡ f → IsClear S f.lo f.hi) → IsNotClear S K e p
 not_clear_found S K k e p st least before =
     (k, st, record { within = st.0; holds = (e, p, st, least.within, least.holds); before = λ j m u. before j u.0 m u.2.1 u.1 u.3 u.4 }, least)
 
 -- one more clear pair
-pub clear_more : (S : List Point) (K : List Pair) (i : ℕ) (e : Pair) → StandsAt K i e → IsClear S e.lo e.hi
+pub clear_more : (S : List Point) (K : List Pair) (i : ℕ) (e : Pair) → IsPairAt K i e → IsClear S e.lo e.hi
     → ((k : ℕ) (f : Pair) → k < i → slice_index_or K k f ≡ f → IsClear S f.lo f.hi) → (k : ℕ) (f : Pair) → k < i + 1 → slice_index_or K k f ≡ f → IsClear S f.lo f.hi
 clear_more S K i e st clear before k f l is =
     below_more (λ (k : ℕ). (f : Pair) → slice_index_or K k f ≡ f → IsClear S f.lo f.hi) i (λ k m f is. before k f m is)
     (λ f is. let P : Pair → Type 0 = λ x. IsClear S x.lo x.hi in subst P (stands_same K i e f st (st.0, is)) clear) k l f is
 
-pub crossing_here : (S : List Point) (K : List Pair) (a b : ℕ) (e f : Pair) → StandsAt K a e → StandsAt K b f
+pub crossing_here : (S : List Point) (K : List Pair) (a b : ℕ) (e f : Pair) → IsPairAt K a e → IsPairAt K b f
     → AreCrossingAt S K a b → AreCrossing S e.lo e.hi f.lo f.hi
 crossing_here S K a b e f se sf h =
     let P : Pair → Type 0 = λ x. AreCrossing S x.lo x.hi f.lo f.hi in
@@ -48,7 +48,7 @@ crossing_here S K a b e f se sf h =
     subst P (stands_same K a h.0 e h.2 se) (subst Q (stands_same K b h.1 f h.3 sf) h.4)
 
 -- a test of the pairs at two positions
-pub crossing_tested : (S : List Point) (K : List Pair) (a b : ℕ) (e f : Pair) (r : Bool) → StandsAt K a e → StandsAt K b f
+pub crossing_tested : (S : List Point) (K : List Pair) (a b : ℕ) (e f : Pair) (r : Bool) → IsPairAt K a e → IsPairAt K b f
     → IsTrue r ↔ AreCrossing S e.lo e.hi f.lo f.hi → IsTrue r ↔ AreCrossingAt S K a b
 crossing_tested S K a b e f r se sf h = (λ t. (e, f, se, sf, h.0 t), λ c. h.1 (crossing_here S K a b e f se sf c))
 
@@ -62,10 +62,10 @@ common_end S e f (inl (inr h)) c = zero_not_opposite _ _ (ap (λ i. area (point 
 common_end S e f (inr (inl h)) c = not_opposite_zero _ _ (ap (λ i. area (point S e.lo) (point S e.hi) (point S i)) (sym h) ∙ area_second (point S e.lo) (point S e.hi)) c.0
 common_end S e f (inr (inr h)) c = zero_not_opposite _ _ (ap (λ i. area (point S e.lo) (point S e.hi) (point S i)) (sym h) ∙ area_second (point S e.lo) (point S e.hi)) c.0
 
-same_position : (S : List Point) (K : List Pair) (k m : ℕ) (e f : Pair) → k ≡ m → StandsAt K k e → StandsAt K m f
+same_position : (S : List Point) (K : List Pair) (k m : ℕ) (e f : Pair) → k ≡ m → IsPairAt K k e → IsPairAt K m f
     → ¬ AreCrossing S e.lo e.hi f.lo f.hi
 same_position S K k m e f s he hf h =
-    let P : ℕ → Type 0 = λ x. StandsAt K x e in
+    let P : ℕ → Type 0 = λ x. IsPairAt K x e in
     let same : e ≡ f = stands_same K m e f (subst P s he) hf in
     let Q : Pair → Type 0 = λ x. AreCrossing S e.lo e.hi x.lo x.hi in
     crosses_itself S e.lo e.hi (subst Q (sym same) h)
@@ -77,7 +77,7 @@ plane_from S K none e f he hf h =
     (λ l. none hf.0 he.0 l he.1 (f, e, (hf.1, hf.2), (he.1, he.2), (h.1, h.0))) u)
     (cases_order he.0 hf.0)
 
-pub crossing_found : (S : List Point) (K : List Pair) (a b : ℕ) (e f : Pair) → StandsAt K a e → StandsAt K b f
+pub crossing_found : (S : List Point) (K : List Pair) (a b : ℕ) (e f : Pair) → IsPairAt K a e → IsPairAt K b f
     → a < b → AreCrossingAt S K a b
     → ((k m : ℕ) → k < a → k < m → m < length K → ¬ AreCrossingAt S K k m)
     → ((m : ℕ) → a < m → m < b → ¬ AreCrossingAt S K a m) → IsCrossing S K e f

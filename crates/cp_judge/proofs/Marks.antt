@@ -8,7 +8,8 @@ use Rattle.plane.specs.First.{IsLeast, IsLeastOrNone}
 use Rattle.plane.specs.Geometry.{IsInner}
 use Rattle.partition_defs.specs.Partition.{HasEnds, AreWithin, IsMet, MeetsNeedsAt}
 use Rattle.cp_judge.specs.Ends.{IsOtherEnd}
-use Rattle.cp_judge.specs.Violation.{StandsAt, IsSeen, IsMetBy, IsMetBefore, mark, AddsMarks, IsUnmetAt, IsUnmet}
+use Rattle.cp_judge.specs.Searching.{IsInNeedOfAnother, IsMetBy, IsMetBefore, mark, AddsMarks}
+use Rattle.cp_judge.specs.Violation.{IsPairAt, IsUnmetAt, IsUnmet}
 use Rattle.cp_judge.proofs.Items.{stands_same}
 use Rattle.number_laws.proofs.Truth.{false_of_not}
 
@@ -31,22 +32,22 @@ marks_more P Q R n M N O split left right h g q l = (
 )
 
 pub met_by_end : (S : List Point) (e : Pair) (p r : ℕ) → IsOtherEnd e p (Some r) → (n : ℕ) (M N : List Bool)
-    → AddsMarks (λ q. IsSeen S p q r) n M N → AddsMarks (IsMetBy S e p) n M N
+    → AddsMarks (λ q. IsInNeedOfAnother S p q r) n M N → AddsMarks (IsMetBy S e p) n M N
 met_by_end S e p r other n M N h =
-    marks_as (λ q. IsSeen S p q r) (IsMetBy S e p) n M N (λ q u. (r, (other r).1 refl, u))
-    (λ q u. let P : ℕ → Type 0 = λ x. IsSeen S p q x in subst P ((other u.0).0 u.1) u.2) h
+    marks_as (λ q. IsInNeedOfAnother S p q r) (IsMetBy S e p) n M N (λ q u. (r, (other r).1 refl, u))
+    (λ q u. let P : ℕ → Type 0 = λ x. IsInNeedOfAnother S p q x in subst P ((other u.0).0 u.1) u.2) h
 
-split_last : (S : List Point) (K : List Pair) (i : ℕ) (e : Pair) (p q : ℕ) → StandsAt K i e
+split_last : (S : List Point) (K : List Pair) (i : ℕ) (e : Pair) (p q : ℕ) → IsPairAt K i e
     → IsMetBefore S K (i + 1) p q → IsMetBefore S K i p q ⊎ IsMetBy S e p q
 split_last S K i e p q st u =
     let at_most : u.0 ≤ i = let l = u.2 in omega arith in
     ⊎_elim
-    (λ s. let P : ℕ → Type 0 = λ x. StandsAt K x u.1 in
+    (λ s. let P : ℕ → Type 0 = λ x. IsPairAt K x u.1 in
     let Q : Pair → Type 0 = λ x. IsMetBy S x p q in
     inr (subst Q (stands_same K i u.1 e (subst P s u.3) st) u.4))
     (λ l. inl (u.0, u.1, l, u.3, u.4)) (eq-or-lt_of_le at_most)
 
-pub met_before_more : (S : List Point) (K : List Pair) (i : ℕ) (e : Pair) (p n : ℕ) (M N O : List Bool) → StandsAt K i e
+pub met_before_more : (S : List Point) (K : List Pair) (i : ℕ) (e : Pair) (p n : ℕ) (M N O : List Bool) → IsPairAt K i e
     → AddsMarks (IsMetBefore S K i p) n M N → AddsMarks (IsMetBy S e p) n N O → AddsMarks (IsMetBefore S K (i + 1) p) n M O
 met_before_more S K i e p n M N O st h g =
     marks_more (IsMetBefore S K i p) (IsMetBy S e p) (IsMetBefore S K (i + 1) p) n M N O (λ q u. split_last S K i e p q st u)

@@ -13,7 +13,7 @@ use Rattle.plane.specs.declared.segment.Pair.{Pair}
 use Rattle.plane.specs.Geometry.{point}
 use Rattle.plane.proofs.laws.Quadruple.{AreBelow, not_below_across, not_below_upward}
 use Rattle.cp_judge.specs.declared.crossing.Span.{Span}
-use Rattle.cp_judge.specs.Violation.{StandsAt, AreCrossingAt}
+use Rattle.cp_judge.specs.Violation.{IsPairAt, AreCrossingAt}
 use Rattle.cp_judge.specs.Spans.{span, HasRange, IsSpan, AreSpans, AreByLeft, IsUpToCrossing, CrossNoneBefore}
 use Rattle.cp_judge.proofs.Items.{crossing_here}
 
@@ -102,11 +102,11 @@ span_set P Z p z hp here before = below_more (λ k. P k (span (set Z p z) k)) p
     (let Q : Span → Type 0 = λ w. P p w in subst Q (sym (get_or-set_same Z p z _ hp)) here)
 
 -- one more span, at the position of its pair
-pub spans_more : (S : List Point) (K : List Pair) (Z : List Span) (p : ℕ) (e : Pair) (z : Span) → p < length Z → StandsAt K p e → HasRange S e z → z.place ≡ p
+pub spans_more : (S : List Point) (K : List Pair) (Z : List Span) (p : ℕ) (e : Pair) (z : Span) → p < length Z → IsPairAt K p e → HasRange S e z → z.place ≡ p
     → ((k : ℕ) → k < p → IsSpan S K (span Z k) × ((span Z k).place ≡ k))
     → (k : ℕ) → k < p + 1 → IsSpan S K (span (set Z p z) k) × ((span (set Z p z) k).place ≡ k)
 spans_more S K Z p e z hp stands range at before =
-    let P : ℕ → Type 0 = λ k. StandsAt K k e in
+    let P : ℕ → Type 0 = λ k. IsPairAt K k e in
     span_set (λ k w. IsSpan S K w × (w.place ≡ k)) Z p z hp ((e, subst P (sym at) stands, range), at) before
 
 -- a lesser position will do too

@@ -9,12 +9,12 @@ use Rattle.partition_defs.specs.Partition.{Joins, AreWithin, MeetsNeedsAt}
 use Rattle.cp_judge.specs.declared.turning.End.{End}
 use Rattle.cp_judge.specs.Ends.{AreOthers, MeetsNeedsAmong}
 use Rattle.cp_judge.specs.Turning.{AreEndsOf, IsTarget}
-use Rattle.cp_judge.specs.Violation.{StandsAt}
+use Rattle.cp_judge.specs.Violation.{IsPairAt}
 use Rattle.cp_judge.proofs.Gathered.{end_elsewhere}
 use Rattle.cp_judge.proofs.Boxing.{set_more}
 
 -- both ends of one more segment
-pub two_more : (K : List Pair) (Z : List End) (k : ℕ) (e : Pair) (y z d : End) → 2 * k + 1 < length Z → StandsAt K k e → y.at ≡ e.lo → y.to ≡ e.hi → z.at ≡ e.hi → z.to ≡ e.lo
+pub two_more : (K : List Pair) (Z : List End) (k : ℕ) (e : Pair) (y z d : End) → 2 * k + 1 < length Z → IsPairAt K k e → y.at ≡ e.lo → y.to ≡ e.hi → z.at ≡ e.hi → z.to ≡ e.lo
     → ((i : ℕ) → i < 2 * k → let w = slice_index_or Z i d in Joins K w.at w.to)
     → (i : ℕ) → i < 2 * (k + 1) → let w = slice_index_or (set (set Z (2 * k) y) (2 * k + 1) z) i d in Joins K w.at w.to
 two_more K Z k e y z d room st ya yt za zt before i l =

@@ -9,7 +9,7 @@ use Rattle.partition_defs.specs.Partition.{AreClear, ArePlane, HasBorder, MeetsN
 use Rattle.partition_defs.specs.Triangulation.{AreDistinct}
 use Rattle.cp_judge.specs.declared.answer.Judgement.{Judgement}
 use Rattle.cp_judge.specs.declared.answer.Judgement.TheVariants.{Convex, Doubled, NotClear, Crossing, MissingBorder, Unmet}
-use Rattle.cp_judge.specs.Violation.{StandsAt, IsRepeatedAt, IsDoubled, IsUnclearAt, IsNotClear, AreCrossingAt, IsCrossing, IsMissing, IsMissingBorder, IsUnmetAt, HasUnmet, IsUnmet}
+use Rattle.cp_judge.specs.Violation.{IsPairAt, IsRepeatedAt, IsDoubled, IsUnclearAt, IsNotClear, AreCrossingAt, IsCrossing, IsMissing, IsMissingBorder, IsUnmetAt, HasUnmet, IsUnmet}
 use Rattle.cp_judge.specs.Judgement.{IsJudgement}
 use Rattle.plane.proofs.laws.Pairs.{pair_same}
 use Rattle.cp_judge.proofs.Items.{stands_same}
@@ -30,8 +30,8 @@ column_same R n i j k l s h g =
     (λ u. ⊎_elim (λ o. absurd (g.before i j h.ordered h.within (inr (s, o)) h.holds)) (λ o. absurd (h.before k l g.ordered g.within (inr (sym s, o)) g.holds)) u)
     (cases_order j l)
 
-stands_at_same : (K : List Pair) (k m : ℕ) (e f : Pair) → k ≡ m → StandsAt K k e → StandsAt K m f → e ≡ f
-stands_at_same K k m e f s h g = let P : ℕ → Type 0 = λ x. StandsAt K x e in stands_same K m e f (subst P s h) g
+stands_at_same : (K : List Pair) (k m : ℕ) (e f : Pair) → k ≡ m → IsPairAt K k e → IsPairAt K m f → e ≡ f
+stands_at_same K k m e f s h g = let P : ℕ → Type 0 = λ x. IsPairAt K x e in stands_same K m e f (subst P s h) g
 
 doubled_same : (K : List Pair) (e f : Pair) → IsDoubled K e → IsDoubled K f → e ≡ f
 doubled_same K e f h g = stands_at_same K h.0 g.0 e f (least_same (IsRepeatedAt K) (length K) h.0 g.0 h.2 g.2) h.1 g.1

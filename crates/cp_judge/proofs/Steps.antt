@@ -11,7 +11,8 @@ use Rattle.plane.specs.Geometry.{IsBorderPair}
 use Rattle.plane.specs.Hull.{IsBorderStep}
 use Rattle.plane.proofs.laws.Border.{border_of_left, clear_back, border_back}
 use Rattle.partition_defs.specs.Partition.{Joins, HasBorder}
-use Rattle.cp_judge.specs.Violation.{IsMissing, IsMissingBorder, IsMissingStep, IsMissingBelow, IsLesser}
+use Rattle.cp_judge.specs.Searching.{IsMissingStep, IsMissingBelow, IsLesser}
+use Rattle.cp_judge.specs.Violation.{IsMissing, IsMissingBorder}
 use Rattle.partition_defs.proofs.laws.Joined.{join_back}
 use Rattle.plane.proofs.laws.Border.{left_step_once}
 

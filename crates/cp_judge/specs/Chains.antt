@@ -9,7 +9,7 @@ use Rattle.plane.specs.Geometry.{orientation, IsInner}
 use Rattle.plane.specs.Hull.{IsBorderStep}
 use Rattle.partition_defs.specs.Partition.{Joins}
 use Rattle.partition_defs.specs.Sweep.{IsSweptBefore}
-use Rattle.cp_judge.specs.Violation.{mark}
+use Rattle.cp_judge.specs.Searching.{mark}
 
 -- an orientation, seen so that what is on this side is positive
 abbrev pub sided : Turn → ℤ → ℤ

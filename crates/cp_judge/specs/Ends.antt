@@ -1,3 +1,4 @@
+-- For private clauses.
 -- The ends of the segments at a point, and the needs that are met among them.
 use Rattle.std.specs.Prelude.{◌≡◌, ◌≢◌, ℕ, ◌<◌, ◌||◌, ◌==◌, ◌↔◌, List, length, Option, Some, None}
 use Rattle.std.specs.List.{All, Contains, count_by}

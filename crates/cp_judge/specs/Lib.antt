@@ -1,5 +1,6 @@
 pub mod Ends
 pub mod Violation
+pub mod Searching
 pub mod Ascending
 pub mod Spans
 pub mod Judgement

@@ -7,7 +7,7 @@ use Rattle.plane.specs.declared.coordinates.Point.{Point}
 use Rattle.plane.specs.declared.segment.Pair.{Pair}
 use Rattle.plane.specs.Geometry.{point}
 use Rattle.cp_judge.specs.declared.crossing.Span.{Span}
-use Rattle.cp_judge.specs.Violation.{StandsAt, AreCrossingAt}
+use Rattle.cp_judge.specs.Violation.{IsPairAt, AreCrossingAt}
 
 -- the span at this index
 abbrev pub span : List Span → ℕ → Span
@@ -21,7 +21,7 @@ HasRange S e z =
 
 -- z is the span of the pair at its place
 abbrev pub IsSpan : List Point → List Pair → Span → Type 0
-IsSpan S K z = (e : Pair) × StandsAt K z.place e × HasRange S e z
+IsSpan S K z = (e : Pair) × IsPairAt K z.place e × HasRange S e z
 
 -- Z has the spans of all pairs of K, and no others
 pub record AreSpans (S : List Point) (K : List Pair) (Z : List Span) : Type 0 where

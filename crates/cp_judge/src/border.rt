@@ -4,7 +4,8 @@ ghost use Rattle.std.specs.Prelude.{◌≡◌, ◌<◌, ◌≤◌, ◌↔◌, �
 ghost use Rattle.plane.specs.First.{ComesBefore};
 ghost use Rattle.partition_defs.specs.Partition.{HasBorder};
 ghost use Rattle.cp_judge.specs.Chains.{AreOnBorder};
-ghost use Rattle.cp_judge.specs.Violation.{IsMissingBorder, IsMissingStep, IsLesser};
+ghost use Rattle.cp_judge.specs.Searching.{IsMissingStep, IsLesser};
+ghost use Rattle.cp_judge.specs.Violation.{IsMissingBorder};
 
 use crate::outline::has_border;
 use partition_defs::joins;

@@ -1,7 +1,8 @@
 // Pairs that cross. Only pairs whose ranges of x and of y meet are compared, where the list isn't too long to put them in order.
 ghost use Rattle.std.specs.Prelude.{◌≡◌, ◌<◌, ◌≤◌, ◌↔◌, ◌⊎◌, ◌<ℤ◌, ℕ, length, IsTrue, IsFalse, MatchOption};
 ghost use Rattle.partition_defs.specs.Partition.{AreWithin, ArePlane};
-ghost use Rattle.cp_judge.specs.Violation.{AreCrossingAt, IsCrossing, IsLeastAfterOrNone};
+ghost use Rattle.cp_judge.specs.Searching.{IsLeastAfterOrNone};
+ghost use Rattle.cp_judge.specs.Violation.{AreCrossingAt, IsCrossing};
 ghost use Rattle.cp_judge.specs.Spans.{span, HasRange, IsSpan, AreSpans, HaveCommonEnd, AreByLeft, IsUpToCrossing, CrossNoneBefore};
 
 use crate::MOST_ORDERED;

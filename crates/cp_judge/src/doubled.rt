@@ -2,7 +2,7 @@
 ghost use Rattle.std.specs.Prelude.{◌<◌, ◌↔◌, length, IsTrue, MatchOption};
 ghost use Rattle.partition_defs.specs.Triangulation.{AreDistinct};
 ghost use Rattle.cp_judge.specs.Violation.{IsRepeatedAt, IsDoubled};
-ghost use Rattle.cp_judge.specs.Ascending.{IsAscending};
+ghost use Rattle.cp_judge.specs.Ascending.{RisesByNeighbours};
 
 use crate::MOST_ORDERED;
 use plane::Pair;
@@ -23,7 +23,7 @@ fn is_repeated(list: &[Pair], k: usize) -> bool
 
 // Whether each pair comes before the next.
 fn is_ascending(list: &[Pair]) -> bool
-    ensures { IsTrue result ↔ IsAscending list.now }
+    ensures { IsTrue result ↔ RisesByNeighbours list.now }
 {
     list.is_sorted_by(|e, f| e < f)
 }

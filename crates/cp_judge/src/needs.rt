@@ -8,7 +8,8 @@ ghost use Rattle.partition_defs.specs.Partition.{Joins, AreWithin, MeetsNeedsAt,
 ghost use Rattle.cp_judge.specs.Chains.{AreOnBorder};
 ghost use Rattle.cp_judge.specs.Ends.{AreOthers, IsMetAmong, MeetsNeedsAmong, IsUnmetAmong};
 ghost use Rattle.cp_judge.specs.Turning.{AreEndsOf};
-ghost use Rattle.cp_judge.specs.Violation.{IsSeen, IsMetBy, IsMetBefore, mark, AddsMarks, IsUnmetAt, IsUnmet};
+ghost use Rattle.cp_judge.specs.Searching.{IsInNeedOfAnother, IsMetBy, IsMetBefore, mark, AddsMarks};
+ghost use Rattle.cp_judge.specs.Violation.{IsUnmetAt, IsUnmet};
 
 use crate::MOST_ORDERED;
 use crate::ends::{gather_ends, other_end};
@@ -53,7 +54,7 @@ fn is_seen(points: &Points, p: u32, q: u32, r: u32, marked: bool) -> bool
     requires p_in { p < length points.now }
     requires q_in { q < length points.now }
     requires r_in { r < length points.now }
-    ensures { IsTrue result ↔ (IsTrue marked ⊎ IsSeen points.now p q r) }
+    ensures { IsTrue result ↔ (IsTrue marked ⊎ IsInNeedOfAnother points.now p q r) }
 {
     marked || (q != p && points.in_need(p, q, r))
 }
@@ -63,7 +64,7 @@ fn mark_seen(points: &Points, p: u32, r: u32, marks: &mut [bool])
     requires p_in { p < length points.now }
     requires r_in { r < length points.now }
     requires room { length points.now ≤ length marks.old }
-    ensures { AddsMarks (λ q. IsSeen points.now p q r) (length points.now) marks.old marks.new }
+    ensures { AddsMarks (λ q. IsInNeedOfAnother points.now p q r) (length points.now) marks.old marks.new }
 {
     for q in 0..points.len() {
         let k = q as usize;

@@ -1,4 +1,4 @@
-use Rattle.cp_judge.specs.Violation.{IsMissingBelow}
+use Rattle.cp_judge.specs.Searching.{IsMissingBelow}
 use Rattle.cp_judge.proofs.border.least_missing_border.Given as goal
 
 abbrev pub invariant-loop-v : goal.invariant-loop-v

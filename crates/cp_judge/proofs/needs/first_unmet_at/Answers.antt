@@ -1,7 +1,7 @@
 use Rattle.std.proofs.Common.{ℕ, ◌≢◌, subst, false, replicate, arith, length, ◌≡◌, ◌≤◌}
 use Rattle.std.proofs.lemmas.List.{get_or-replicate}
 use Rattle.plane.specs.First.{IsLeastOrNone}
-use Rattle.cp_judge.specs.Violation.{mark}
+use Rattle.cp_judge.specs.Searching.{mark}
 use Rattle.cp_judge.proofs.Marks.{unmet_from}
 use Rattle.cp_judge.proofs.needs.first_unmet_at.Goals as goal
 

@@ -1,5 +1,5 @@
 use Rattle.std.proofs.Common.{refl}
-use Rattle.cp_judge.specs.Violation.{IsMetBy}
+use Rattle.cp_judge.specs.Searching.{IsMetBy}
 use Rattle.cp_judge.proofs.Marks.{end_in, met_by_end, marks_kept}
 use Rattle.std.proofs.Common.{length}
 use Rattle.cp_judge.proofs.needs.mark_by.Goals as goal

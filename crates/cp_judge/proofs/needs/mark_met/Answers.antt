@@ -1,5 +1,5 @@
 use Rattle.std.proofs.Common.{◌≡◌, ℕ, sym, length, subst, arith}
-use Rattle.cp_judge.specs.Violation.{IsMetBefore, AddsMarks}
+use Rattle.cp_judge.specs.Searching.{IsMetBefore, AddsMarks}
 use Rattle.cp_judge.proofs.Marks.{met_before_more}
 use Rattle.cp_judge.proofs.needs.mark_met.Goals as goal
 

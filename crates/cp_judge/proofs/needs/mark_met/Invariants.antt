@@ -1,5 +1,5 @@
 use Rattle.std.proofs.Common.{length}
-use Rattle.cp_judge.specs.Violation.{AddsMarks, IsMetBefore}
+use Rattle.cp_judge.specs.Searching.{AddsMarks, IsMetBefore}
 use Rattle.cp_judge.proofs.needs.mark_met.Given as goal
 
 abbrev pub invariant-loop-e : goal.invariant-loop-e

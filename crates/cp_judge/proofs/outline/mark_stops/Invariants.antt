@@ -1,5 +1,5 @@
 use Rattle.std.proofs.Common.{◌≡◌, ◌<◌, ℕ, ◌⊎◌, IsTrue}
-use Rattle.cp_judge.specs.Violation.{mark}
+use Rattle.cp_judge.specs.Searching.{mark}
 use Rattle.cp_judge.specs.Chains.{stop}
 use Rattle.cp_judge.proofs.outline.mark_stops.Given as goal
 

@@ -2,9 +2,9 @@
 use Rattle.std.proofs.Common.{◌≡◌, ◌≢◌, ℕ, ◌+◌, ◌-◌, ◌<◌, ◌≤◌, Bool, false, List, length, ◌⊎◌, inl, inr, arith, ap, sym, subst, ◌∙◌, None}
 use Rattle.std.proofs.lemmas.Bool.{false≢true, cases_lt}
 use Rattle.plane.specs.declared.coordinates.Point.{Point}
-use Rattle.star.specs.Stars.{Seen, entry, around, IsFirstKept, IsFirstKeptOrNone}
+use Rattle.star.specs.Stars.{Seen, entry, around, IsFirstKept}
 use Rattle.star.specs.declared.links.Link.{Link}
-use Rattle.star.specs.Links.{link, HasRightLinks, IsAfterOrNone}
+use Rattle.star.specs.Links.{link, HasRightLinks, IsAfterOrNone, IsFirstKeptOrNone}
 use Rattle.star.specs.Gaps.{IsKept, ComesSooner, IsKeptAfter}
 use Rattle.star.proofs.Listed.{all_round}
 use Rattle.number_laws.proofs.Truth.{false_of_not}

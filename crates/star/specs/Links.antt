@@ -6,7 +6,7 @@ use Rattle.plane.specs.declared.coordinates.Point.{Point}
 use Rattle.plane.specs.Accepted.{AreAccepted}
 use Rattle.plane.specs.Geometry.{IsInNeed}
 use Rattle.star.specs.Turn.{IsBeforeInTurn}
-use Rattle.star.specs.Stars.{entry, IsOrderly}
+use Rattle.star.specs.Stars.{Seen, entry, IsOrderly, IsFirstKept}
 use Rattle.star.specs.declared.links.Link.{Link}
 use Rattle.star.specs.Gaps.{IsKept, IsKeptAfter, IsKeptBefore, IsWide, MissesSome}
 
@@ -84,6 +84,11 @@ IsFirstIn list from to None = (m : ℕ) → from ≤ m → m < to → ¬ IsKept 
 abbrev pub IsAfterOrNone : List (ℕ × Bool) → ℕ → Option ℕ → Type 0
 IsAfterOrNone list k (Some j) = (j ≢ k) × IsKeptAfter list k j
 IsAfterOrNone list k None = (m : ℕ) → IsKept list m → m ≡ k
+
+-- the first kept neighbour after that at k, or none where none is kept
+abbrev pub IsFirstKeptOrNone : Seen → ℕ → Option ℕ → Type 0
+IsFirstKeptOrNone s k None = (j : ℕ) → j < length s.list → (entry s.list j).1 ≡ false
+IsFirstKeptOrNone s k (Some r) = IsFirstKept s k r
 
 -- the neighbours below k come before q, and those from k on don't
 pub record IsSeat (S : List Point) (c : ℕ) (list : List (ℕ × Bool)) (q k : ℕ) : Type 0 where

@@ -62,11 +62,6 @@ IsFirstKept s k r =
     (d : ℕ) × (d < length s.list) × (entry s.list (around (length s.list) (k + d + 1)) ≡ (r, true))
     × ((e : ℕ) → e < d → (entry s.list (around (length s.list) (k + e + 1))).1 ≡ false)
 
--- the first kept neighbour after that at k, or none where none is kept
-abbrev pub IsFirstKeptOrNone : Seen → ℕ → Option ℕ → Type 0
-IsFirstKeptOrNone s k None = (j : ℕ) → j < length s.list → (entry s.list j).1 ≡ false
-IsFirstKeptOrNone s k (Some r) = IsFirstKept s k r
-
 -- the first kept neighbour after q, or none where q isn't a neighbour or none is kept
 abbrev pub IsKeptNext : Seen → ℕ → Option ℕ → Type 0
 IsKeptNext s q None = (k : ℕ) → StandsAt s k q → (j : ℕ) → j < length s.list → (entry s.list j).1 ≡ false

@@ -1,6 +1,7 @@
 ghost use Rattle.std.specs.Prelude.{◌≡◌, ◌≢◌, ◌+◌, ◌<◌, ◌≤◌, ◌^◌, ℕ, [], length, IfOk, OnOk, OnErr, IsTrue, ◌↔◌, insert, remove, slice_set, vec_len, vec_capacity, true, false};
-ghost use Rattle.star.specs.Stars.{Seen, entry, around, IsStar, IsNeighbour, HasMark, StandsAt, IsPlace, IsNext, IsFirstKept, IsFirstKeptOrNone, IsKeptNext, Marks, SamePlace, Gains, Loses, IsFree};
+ghost use Rattle.star.specs.Stars.{Seen, entry, around, IsStar, IsNeighbour, HasMark, StandsAt, IsPlace, IsNext, IsFirstKept, IsKeptNext, Marks, SamePlace, Gains, Loses, IsFree};
 ghost use Rattle.star.specs.Gaps.{IsKept, MeetsAll, MeetsWithout, MissesSome, MissesWithout};
+ghost use Rattle.star.specs.Links.{IsFirstKeptOrNone};
 
 use crate::links::{
     Link, kept_after, link_at, link_in, name_at, opens, put_link, put_neighbour, unlink,

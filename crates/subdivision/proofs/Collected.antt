@@ -5,7 +5,7 @@ use Rattle.std.proofs.lemmas.Bool.{false≢true}
 use Rattle.std.proofs.lemmas.List.Quantifiers.{all_pairs_push}
 use Rattle.plane.specs.declared.segment.Pair.{Pair}
 use Rattle.star.specs.Stars.{Seen, entry}
-use Rattle.subdivision.specs.State.{star_at}
+use Rattle.subdivision.specs.Layout.{star_at}
 use Rattle.subdivision.specs.Listing.{picks, IsTidy, IsPicked, HasRow, HasRows, Takes}
 use Rattle.plane.proofs.laws.Pairs.{pair_same}
 use Rattle.partition_defs.proofs.laws.Has.{has_of, contains_of, has_at, has_append, append_has}

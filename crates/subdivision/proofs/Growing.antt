@@ -18,7 +18,7 @@ use Rattle.star.specs.StarOf.{IsStarOf}
 use Rattle.star.proofs.laws.Marks.{gains_neighbour, gains_mark, marks_neighbour, keeps_mark}
 use Rattle.star.proofs.laws.Directions.{not_opposed}
 use Rattle.number_laws.proofs.Naturals.{equal_or_not}
-use Rattle.subdivision.specs.State.{star_at, AreStarsOf}
+use Rattle.subdivision.specs.Layout.{star_at, AreStarsOf}
 use Rattle.subdivision.specs.Joining.{Links, LinksEnds}
 use Rattle.partition_defs.proofs.laws.Has.{Has, has_of, contains_of, has_append, append_has}
 use Rattle.partition_defs.proofs.laws.Joined.{joined, joins_of}

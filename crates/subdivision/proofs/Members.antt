@@ -15,7 +15,7 @@ use Rattle.star.specs.Stars.{Seen, entry, IsNeighbour, HasMark}
 use Rattle.star.specs.StarOf.{IsStarOf}
 use Rattle.star.proofs.laws.Marks.{marked_neighbour}
 use Rattle.subdivision.specs.Every.{every_pair}
-use Rattle.subdivision.specs.State.{State, star_at, has, keeps, all_of, kept_of, AreStarsOf, AreOf, AreAgreed, IsSubdivision}
+use Rattle.subdivision.specs.Layout.{Layout, star_at, has, keeps, all_of, kept_of, AreStarsOf, AreOf, AreAgreed, IsSubdivision}
 use Rattle.subdivision.proofs.Rows.{has_rows, rows_has, chosen_ascending}
 
 pub neighbour_of : (s : Seen) (w : ℕ) → has s w ≡ true → IsNeighbour s w
@@ -99,7 +99,7 @@ own_stars S stars (T, K, so) =
     }
 
 -- what is true of a subdivision, from its fields
-pub subdivision_of : (s : State) → s.all ≡ all_of s.stars → s.kept ≡ kept_of s.stars → AreAgreed s.points s.stars → IsSubdivision s
+pub subdivision_of : (s : Layout) → s.all ≡ all_of s.stars → s.kept ≡ kept_of s.stars → AreAgreed s.points s.stars → IsSubdivision s
 subdivision_of s a k so =
     let own = own_stars s.points s.stars so in
     record {
@@ -111,7 +111,7 @@ subdivision_of s a k so =
 pub subdivision_own : (S : List Point) (stars : List Seen) → AreAgreed S stars → IsSubdivision (record { points = S; all = all_of stars; kept = kept_of stars; stars = stars })
 subdivision_own S stars so = subdivision_of (record { points = S; all = all_of stars; kept = kept_of stars; stars = stars }) refl refl so
 
-pub vertex_of : (s : State) (v : ℕ) (t : Seen) → IsSubdivision s → v < length s.points → t ≡ star_at s.stars v → IsStarOf s.points s.all s.kept v t
+pub vertex_of : (s : Layout) (v : ℕ) (t : Seen) → IsSubdivision s → v < length s.points → t ≡ star_at s.stars v → IsStarOf s.points s.all s.kept v t
 vertex_of s v t so h is = subst (IsStarOf s.points s.all s.kept v) (sym is) (so.agreed.round.1 v h)
 
 -- the stars of a triangulation whose segments are all kept

@@ -1,8 +1,9 @@
+-- For private clauses.
 -- How one more segment comes into the stars.
 use Rattle.std.specs.Prelude.{◌≡◌, ◌≢◌, ℕ, ◌↔◌, ◌⊎◌, List, length, true}
 use Rattle.plane.specs.declared.segment.Pair.{Pair}
 use Rattle.star.specs.Stars.{Seen, IsStar, IsNeighbour, HasMark, SamePlace}
-use Rattle.subdivision.specs.State.{star_at}
+use Rattle.subdivision.specs.Layout.{star_at}
 
 -- w has become a kept neighbour
 pub record Links (old new : Seen) (w : ℕ) : Type 0 where

@@ -1,5 +1,5 @@
 pub mod Rising
 pub mod Every
-pub mod State
+pub mod Layout
 pub mod Joining
 pub mod Listing

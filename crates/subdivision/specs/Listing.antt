@@ -1,10 +1,11 @@
+-- For private clauses.
 -- Segments collected from the stars of their smaller ends.
 use Rattle.std.specs.Prelude.{◌≡◌, ◌≢◌, ℕ, ◌+◌, ◌<◌, ◌↔◌, ◌⊎◌, Bool, true, if◌then◌else◌, List, [], ◌∷◌, ◌++◌, length, slice_index_or}
 use Rattle.std.specs.List.{AllPairs, Contains}
 use Rattle.plane.specs.declared.segment.Pair.{Pair}
 use Rattle.star.specs.Stars.{Seen, entry}
 use Rattle.partition_defs.specs.Ascending.{ComesFirst}
-use Rattle.subdivision.specs.State.{star_at, has, keeps, all_of, kept_of}
+use Rattle.subdivision.specs.Layout.{star_at, has, keeps, all_of, kept_of}
 
 -- whether w is a neighbour, where the kept ones alone are wanted a kept one
 abbrev pub picks : Bool → Seen → ℕ → Bool

@@ -3,7 +3,7 @@ ghost use Rattle.std.specs.Prelude.{◌≡◌, ◌≢◌, ◌<◌, ℕ, [], leng
 ghost use Rattle.star.specs.Stars.{IsStar, IsFree};
 ghost use Rattle.star.specs.StarOf.{IsStarOf};
 ghost use Rattle.partition_defs.specs.Triangulation.{IsTriangulation, AreDistinct};
-ghost use Rattle.subdivision.specs.State.{star_at, AreStarsOf};
+ghost use Rattle.subdivision.specs.Layout.{star_at, AreStarsOf};
 ghost use Rattle.subdivision.specs.Joining.{Links, LinksEnds};
 
 use mcp_outside::NoMemory;

@@ -2,7 +2,7 @@
 ghost use Rattle.std.specs.Prelude.{◌≡◌, ◌≢◌, ◌<◌, ℕ, length, IfOk, OnOk, IsTrue, ◌↔◌, true};
 ghost use Rattle.std.specs.List.{AllPairs, Contains};
 ghost use Rattle.plane.specs.declared.segment.Pair.{Pair};
-ghost use Rattle.subdivision.specs.State.{star_at};
+ghost use Rattle.subdivision.specs.Layout.{star_at};
 ghost use Rattle.subdivision.specs.Listing.{picked_of, AreTidy, IsTidy, HasRow, HasRows, Takes, IsSortedFrom};
 
 use mcp_outside::NoMemory;

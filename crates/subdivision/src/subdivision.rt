@@ -1,17 +1,16 @@
-ghost use Rattle.std.specs.Prelude.{◌≡◌, ◌≢◌, ◌<◌, ℕ, List, length, IfOk, IsTrue, ◌↔◌, pos, ◌<ℤ◌};
+ghost use Rattle.std.specs.Prelude.{◌≡◌, ◌≢◌, ◌<◌, ℕ, List, length, IfOk};
 ghost use Rattle.std.specs.Option.{option_copied};
 ghost use Rattle.plane.specs.declared.segment.Pair.{Pair};
-ghost use Rattle.plane.specs.Geometry.{orientation};
 ghost use Rattle.partition_defs.specs.Triangulation.{IsTriangulation, AreDistinct};
 ghost use Rattle.star.specs.Stars.{Seen, IsStar};
 ghost use Rattle.star.specs.StarOf.{IsStarOf};
 ghost use Rattle.partition_defs.specs.Sets.{AreSame};
-ghost use Rattle.subdivision.specs.State.{State, star_or_none, star_at, AreOf, AreAgreed, IsSubdivision, IsApexOrNone};
+ghost use Rattle.subdivision.specs.Layout.{Layout, star_or_none, star_at, AreOf, AreAgreed, IsSubdivision, IsApexOrNone};
 
 use crate::joining::stars_of;
 use crate::listing::listed;
 use mcp_outside::NoMemory;
-use plane::{Pair, Points, Turn};
+use plane::{Pair, Points};
 use star::{Star, Stars};
 use std::alloc::Global;
 use std::marker::Model;
@@ -26,9 +25,9 @@ pub struct Subdivision {
 }
 
 impl Model for Subdivision {
-    ghost use Rattle.subdivision.specs.State.{State, star_or_none, AreAgreed, all_of, kept_of};
+    ghost use Rattle.subdivision.specs.Layout.{Layout, star_or_none, AreAgreed, all_of, kept_of};
 
-    ghost Value = { State };
+    ghost Value = { Layout };
 
     ghost view = { λ a. record { points = a.points.value; all = all_of a.stars.items; kept = kept_of a.stars.items; stars = a.stars.items } };
 
@@ -89,7 +88,7 @@ impl Subdivision {
         match self.vertex_star(p).next(points, q) {
             None => None,
             Some(r) => {
-                if is_left(points, p, q, r) {
+                if points.is_left(p, q, r) {
                     Some(r)
                 } else {
                     None
@@ -123,16 +122,6 @@ impl Subdivision {
     {
         &self.stars[v as usize]
     }
-}
-
-// Whether r is strictly left of the line from p to q.
-fn is_left(points: &Points, p: u32, q: u32, r: u32) -> bool
-    requires p_in { p < length points.now }
-    requires q_in { q < length points.now }
-    requires r_in { r < length points.now }
-    ensures { IsTrue result ↔ (pos 0 <ℤ orientation points.now p q r) }
-{
-    points.orient(p, q, r) == Turn::Left
 }
 
 impl Stars for Subdivision {

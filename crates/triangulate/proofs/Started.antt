@@ -5,7 +5,7 @@ use Rattle.plane.specs.declared.coordinates.Point.{Point}
 use Rattle.plane.specs.declared.segment.Pair.{Pair}
 use Rattle.partition_defs.specs.Ascending.{IsAscending}
 use Rattle.partition_defs.specs.Sets.{AreSame}
-use Rattle.subdivision.specs.State.{State, IsSubdivision}
+use Rattle.subdivision.specs.Layout.{Layout, IsSubdivision}
 use Rattle.subdivision.specs.Listing.{IsSortedFrom}
 use Rattle.partition_defs.proofs.laws.Joined.{triangulation_same, same_lists, among_joins}
 use Rattle.subdivision.proofs.laws.Sorting.{sorted_ascends}
@@ -29,6 +29,6 @@ sorted_start S old new start sorted count =
     }
 
 -- a subdivision with the same segments as an ascending list has this list
-pub has_list : (P : List Pair → Type 0) (T : List Pair) {E : Type 0} (r : Result State E) → IsAscending T → P T → IfOk r (λ s. AreSame s.all T) → IfOk r IsSubdivision → IfOk r (λ s. P s.all)
+pub has_list : (P : List Pair → Type 0) (T : List Pair) {E : Type 0} (r : Result Layout E) → IsAscending T → P T → IfOk r (λ s. AreSame s.all T) → IfOk r IsSubdivision → IfOk r (λ s. P s.all)
 has_list P T (Ok s) ascends holds same own = subst P (sym (same_lists s.all T own.ascending ascends same)) holds
 has_list P T (Err e) ascends holds same own = tt

@@ -1,7 +1,7 @@
 // The start: the sweep triangulation as a subdivision, and as an ascending list.
 ghost use Rattle.std.specs.Prelude.{◌≡◌, IfOk, OnOk};
 ghost use Rattle.partition_defs.specs.Ascending.{IsAscending};
-ghost use Rattle.subdivision.specs.State.{IsSubdivision};
+ghost use Rattle.subdivision.specs.Layout.{IsSubdivision};
 ghost use Rattle.triangulate.specs.Start.{IsStart, IsSortedStart};
 
 use crate::sweep::sweep_pairs;

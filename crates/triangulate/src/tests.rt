@@ -1,8 +1,12 @@
+ghost use Rattle.std.specs.Prelude.{◌≡◌};
+
 use crate::{start, sweep_pairs};
 use plane::{Pair, Point, Points};
+use star::Stars;
 use std::alloc::Global;
 use std::process::Abort;
 use std::test::Fail;
+use subdivision::Subdivision;
 
 fn points_of(rt: &impl Abort, alloc: Global, list: &[(i64, i64)]) -> Result<Points, Fail> {
     let mut points = Vec::new(alloc);
@@ -167,6 +171,73 @@ fn exactly_the_sweep_pairs_come_out(rt: HostRuntime) -> Result<(), Fail> {
         pairs.sort()?;
         let plain = plain_sweep_pairs(rt.alloc(), &points)?;
         assert_eq!(rt; pairs.as_slice(), plain.as_slice());
+    }
+    Ok(())
+}
+
+// The apex of p to q, or none where one of them is no point.
+fn apex(points: &Points, all: &Subdivision, p: u32, q: u32) -> Option<u32>
+    requires { points.now ≡ all.now.points }
+{
+    if p < points.len() && q < points.len() {
+        all.apex(points, p, q)
+    } else {
+        None
+    }
+}
+
+// The subdivision taken apart into its stars and made of them again.
+fn again(points: &Points, all: Subdivision) -> Subdivision
+    requires { points.now ≡ all.points }
+{
+    let stars = all.into_stars();
+    Subdivision::from_stars(points, stars)
+}
+
+// The neighbours of a vertex with their marks, in the star's order.
+fn round(alloc: Global, all: &Subdivision, v: u32) -> Result<Vec<(u32, bool)>, Fail> {
+    let mut list = Vec::new(alloc);
+    if let Some(star) = all.star(v) {
+        for k in 0..star.degree() {
+            list.push(star.at(k))?;
+        }
+    }
+    Ok(list)
+}
+
+// The corners of a square and its middle: apexes on either side, and the stars before and after they are taken apart.
+#[test]
+fn stars_and_apexes_of_a_square(rt: HostRuntime) -> Result<(), Fail> {
+    let points = points_of(
+        &rt,
+        rt.alloc(),
+        &[(0, 0), (0, 4), (4, 0), (4, 4), (2, 2)],
+    )?;
+    let all = start(rt.alloc(), &points)?;
+    let rows = [
+        (0, 4, Some(1)),
+        (4, 0, Some(2)),
+        (0, 1, None),
+        (1, 0, Some(4)),
+        (0, 3, None),
+        (0, 9, None),
+    ];
+    for (p, q, want) in rows {
+        assert_eq!(rt; apex(&points, &all, p, q), want, "{p} to {q}");
+    }
+    let want = [(3, true), (1, true), (0, true), (2, true)];
+    let middle = round(rt.alloc(), &all, 4)?;
+    assert_eq!(rt; middle.as_slice(), want.as_slice());
+    assert!(rt; all.star(5).is_none());
+    let pairs = all.pairs()?;
+    let same = again(&points, all);
+    let middle = round(rt.alloc(), &same, 4)?;
+    assert_eq!(rt; middle.as_slice(), want.as_slice());
+    let (list, kept) = (same.pairs()?, same.kept_pairs()?);
+    let want = ends_of(rt.alloc(), &pairs)?;
+    for pairs in [list, kept] {
+        let ends = ends_of(rt.alloc(), &pairs)?;
+        assert_eq!(rt; ends.as_slice(), want.as_slice());
     }
     Ok(())
 }

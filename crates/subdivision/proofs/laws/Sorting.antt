@@ -19,7 +19,7 @@ use Rattle.star.specs.Turn.{IsBeforeInTurn}
 use Rattle.star.specs.Stars.{Seen, entry}
 use Rattle.star.proofs.laws.Turning.{never_before_itself}
 use Rattle.partition_defs.specs.Ascending.{ComesFirst, IsAscending}
-use Rattle.subdivision.specs.State.{star_at, has, keeps, AreAgreed}
+use Rattle.subdivision.specs.Layout.{star_at, has, keeps, AreAgreed}
 use Rattle.subdivision.specs.Listing.{picks, picked_of, IsTidy, AreTidy, HasRows, IsSortedFrom}
 use Rattle.partition_defs.proofs.laws.Has.{has_of, contains_of, one_list, rises_of}
 use Rattle.subdivision.proofs.Rows.{chosen_ascending}

@@ -1,6 +1,6 @@
 use Rattle.std.proofs.Common.{◌≡◌, ◌<◌, ℕ, [], length}
 use Rattle.star.specs.StarOf.{IsStarOf}
-use Rattle.subdivision.specs.State.{star_at}
+use Rattle.subdivision.specs.Layout.{star_at}
 use Rattle.subdivision.proofs.joining.bare_stars.Given as goal
 
 abbrev pub invariant-loop-v : goal.invariant-loop-v

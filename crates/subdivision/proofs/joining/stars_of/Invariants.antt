@@ -1,5 +1,5 @@
 use Rattle.std.proofs.Common.{take}
-use Rattle.subdivision.specs.State.{AreStarsOf}
+use Rattle.subdivision.specs.Layout.{AreStarsOf}
 use Rattle.subdivision.proofs.joining.stars_of.Given as goal
 
 abbrev pub invariant-loop-pair : goal.invariant-loop-pair

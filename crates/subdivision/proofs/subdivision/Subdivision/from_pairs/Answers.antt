@@ -1,5 +1,5 @@
 use Rattle.std.proofs.Common.{subst, sym}
-use Rattle.subdivision.specs.State.{AreOf}
+use Rattle.subdivision.specs.Layout.{AreOf}
 use Rattle.subdivision.proofs.Members.{all_kept, all_joins, kept_is_all, subdivision_own}
 use Rattle.subdivision.proofs.subdivision.Subdivision.from_pairs.Goals as goal
 

@@ -1,5 +1,5 @@
 use Rattle.std.proofs.Common.{subst, sym}
-use Rattle.subdivision.specs.State.{AreAgreed}
+use Rattle.subdivision.specs.Layout.{AreAgreed}
 use Rattle.subdivision.proofs.Members.{subdivision_own, all_joins, kept_joins}
 use Rattle.subdivision.proofs.subdivision.Subdivision.from_stars.Goals as goal
 

@@ -1,5 +1,5 @@
 use Rattle.std.proofs.Common.{subst}
-use Rattle.subdivision.specs.State.{IsSubdivision}
+use Rattle.subdivision.specs.Layout.{IsSubdivision}
 use Rattle.subdivision.proofs.Members.{subdivision_own}
 use Rattle.subdivision.proofs.subdivision.Subdivision.into_stars.Goals as goal
 

@@ -1,5 +1,5 @@
 use Rattle.std.proofs.Common.{subst, sym}
-use Rattle.subdivision.specs.State.{IsSubdivision}
+use Rattle.subdivision.specs.Layout.{IsSubdivision}
 use Rattle.subdivision.specs.Listing.{AreTidy}
 use Rattle.subdivision.proofs.Members.{subdivision_own}
 use Rattle.subdivision.proofs.laws.Sorting.{tidy_of}

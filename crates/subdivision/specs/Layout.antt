@@ -12,7 +12,7 @@ use Rattle.partition_defs.specs.Sets.{AreAmong}
 use Rattle.subdivision.specs.Every.{every_pair}
 
 -- what contracts see of a subdivision: its points, its segments and those that are kept, ascending, and the stars
-pub record State : Type 0 where
+pub record Layout : Type 0 where
   pub points : List Point
   pub all : List Pair
   pub kept : List Pair
@@ -54,7 +54,7 @@ abbrev pub AreAgreed : List Point → List Seen → Type 0
 AreAgreed S stars = (T : List Pair) × (K : List Pair) × AreOf S T K stars
 
 -- what is true of every subdivision
-pub record IsSubdivision (s : State) : Type 0 where
+pub record IsSubdivision (s : Layout) : Type 0 where
   pub ascending : IsAscending s.all
   pub kept_ascending : IsAscending s.kept
   pub agreed : AreOf s.points s.all s.kept s.stars

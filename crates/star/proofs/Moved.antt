@@ -14,84 +14,84 @@ use Rattle.star.proofs.Listed.{orderly_inserted, orderly_removed}
 use Rattle.number_laws.proofs.Naturals.{equal_or_not}
 
 -- the position i of a list is m in the list with one entry more at k
-abbrev pub Rises : (k i m : ℕ) → Type 0
-Rises k i m = ((i < k) × (m ≡ i)) ⊎ ((k ≤ i) × (m ≡ i + 1))
+abbrev pub IsShifted : (k i m : ℕ) → Type 0
+IsShifted k i m = ((i < k) × (m ≡ i)) ⊎ ((k ≤ i) × (m ≡ i + 1))
 
-pub risen : (k i : ℕ) → (m : ℕ) × Rises k i m
+pub risen : (k i : ℕ) → (m : ℕ) × IsShifted k i m
 risen k i = elim (cases_lt i k) [ inl h ↦ (i, inl (h, refl)) | inr h ↦ (i + 1, inr (h, refl)) ]
 
-pub fallen : (k m : ℕ) → m ≢ k → (i : ℕ) × Rises k i m
+pub fallen : (k m : ℕ) → m ≢ k → (i : ℕ) × IsShifted k i m
 fallen k m ne = elim (cases_lt m k) [ inl h ↦ (m, inl (h, refl)) | inr h ↦ (m - 1, inr (omega arith, omega arith)) ]
 
-rising : (k a b x y : ℕ) → Rises k a x → Rises k b y → a < b → x < y
+rising : (k a b x y : ℕ) → IsShifted k a x → IsShifted k b y → a < b → x < y
 rising k a b x y (inl r) (inl s) h = omega arith
 rising k a b x y (inl r) (inr s) h = omega arith
 rising k a b x y (inr r) (inl s) h = absurd (omega arith)
 rising k a b x y (inr r) (inr s) h = omega arith
 
-falling : (k a b x y : ℕ) → Rises k a x → Rises k b y → x < y → a < b
+falling : (k a b x y : ℕ) → IsShifted k a x → IsShifted k b y → x < y → a < b
 falling k a b x y (inl r) (inl s) h = omega arith
 falling k a b x y (inl r) (inr s) h = omega arith
 falling k a b x y (inr r) (inl s) h = absurd (omega arith)
 falling k a b x y (inr r) (inr s) h = omega arith
 
-one_from : (k a b x : ℕ) → Rises k a x → Rises k b x → a ≡ b
+one_from : (k a b x : ℕ) → IsShifted k a x → IsShifted k b x → a ≡ b
 one_from k a b x (inl r) (inl s) = omega arith
 one_from k a b x (inl r) (inr s) = absurd (omega arith)
 one_from k a b x (inr r) (inl s) = absurd (omega arith)
 one_from k a b x (inr r) (inr s) = omega arith
 
-one_to : (k a x y : ℕ) → Rises k a x → Rises k a y → x ≡ y
+one_to : (k a x y : ℕ) → IsShifted k a x → IsShifted k a y → x ≡ y
 one_to k a x y (inl r) (inl s) = omega arith
 one_to k a x y (inl r) (inr s) = absurd (omega arith)
 one_to k a x y (inr r) (inl s) = absurd (omega arith)
 one_to k a x y (inr r) (inr s) = omega arith
 
-come_up : (k a b d x y z : ℕ) → Rises k a x → Rises k b y → Rises k d z → ComesSooner a b d → ComesSooner x y z
+come_up : (k a b d x y z : ℕ) → IsShifted k a x → IsShifted k b y → IsShifted k d z → ComesSooner a b d → ComesSooner x y z
 come_up k a b d x y z r s t (inl (f, g)) = inl (rising k a b x y r s f, rising k b d y z s t g)
 come_up k a b d x y z r s t (inr (inl (f, g))) = inr (inl (rising k b d y z s t f, rising k d a z x t r g))
 come_up k a b d x y z r s t (inr (inr (f, g))) = inr (inr (rising k d a z x t r f, rising k a b x y r s g))
 
-come_down : (k a b d x y z : ℕ) → Rises k a x → Rises k b y → Rises k d z → ComesSooner x y z → ComesSooner a b d
+come_down : (k a b d x y z : ℕ) → IsShifted k a x → IsShifted k b y → IsShifted k d z → ComesSooner x y z → ComesSooner a b d
 come_down k a b d x y z r s t (inl (f, g)) = inl (falling k a b x y r s f, falling k b d y z s t g)
 come_down k a b d x y z r s t (inr (inl (f, g))) = inr (inl (falling k b d y z s t f, falling k d a z x t r g))
 come_down k a b d x y z r s t (inr (inr (f, g))) = inr (inr (falling k d a z x t r f, falling k a b x y r s g))
 
 -- the second list has one entry more, unmarked at k
 pub record IsSpread (small large : List (ℕ × Bool)) (k : ℕ) : Type 0 where
-  pub up : (i m : ℕ) → Rises k i m → IsKept small i → IsKept large m
-  pub down : (m : ℕ) → IsKept large m → (i : ℕ) × Rises k i m × IsKept small i
-  pub names : (i m : ℕ) → Rises k i m → i < length small → (entry large m).0 ≡ (entry small i).0
+  pub up : (i m : ℕ) → IsShifted k i m → IsKept small i → IsKept large m
+  pub down : (m : ℕ) → IsKept large m → (i : ℕ) × IsShifted k i m × IsKept small i
+  pub names : (i m : ℕ) → IsShifted k i m → i < length small → (entry large m).0 ≡ (entry small i).0
 
-kept_down : (small large : List (ℕ × Bool)) (k i m : ℕ) → IsSpread small large k → Rises k i m → IsKept large m → IsKept small i
+kept_down : (small large : List (ℕ × Bool)) (k i m : ℕ) → IsSpread small large k → IsShifted k i m → IsKept large m → IsKept small i
 kept_down small large k i m sp r km = let (j, s, kj) = sp.down m km in subst (λ x. IsKept small x) (one_from k j i m s r) kj
 
-pub after_up : (small large : List (ℕ × Bool)) (k i j m n : ℕ) → IsSpread small large k → IsKeptAfter small i j → Rises k i m → Rises k j n → IsKeptAfter large m n
+pub after_up : (small large : List (ℕ × Bool)) (k i j m n : ℕ) → IsSpread small large k → IsKeptAfter small i j → IsShifted k i m → IsShifted k j n → IsKeptAfter large m n
 after_up small large k i j m n sp after r s = record {
   kept = sp.up j n s after.kept;
   first = λ z kz zm zn. (let (x, t, kx) = sp.down z kz in
-      come_up k i j x m n z r s t (after.first x kx (λ e. zm (one_to k i z m (subst (λ y. Rises k y z) e t) r)) (λ e. zn (one_to k j z n (subst (λ y. Rises k y z) e t) s))));
+      come_up k i j x m n z r s t (after.first x kx (λ e. zm (one_to k i z m (subst (λ y. IsShifted k y z) e t) r)) (λ e. zn (one_to k j z n (subst (λ y. IsShifted k y z) e t) s))));
 }
 
-pub before_up : (small large : List (ℕ × Bool)) (k i j m n : ℕ) → IsSpread small large k → IsKeptBefore small i j → Rises k i m → Rises k j n → IsKeptBefore large m n
+pub before_up : (small large : List (ℕ × Bool)) (k i j m n : ℕ) → IsSpread small large k → IsKeptBefore small i j → IsShifted k i m → IsShifted k j n → IsKeptBefore large m n
 before_up small large k i j m n sp before r s = record {
   kept = sp.up j n s before.kept;
   last = λ z kz zm zn. (let (x, t, kx) = sp.down z kz in
-      come_up k j i x n m z s r t (before.last x kx (λ e. zm (one_to k i z m (subst (λ y. Rises k y z) e t) r)) (λ e. zn (one_to k j z n (subst (λ y. Rises k y z) e t) s))));
+      come_up k j i x n m z s r t (before.last x kx (λ e. zm (one_to k i z m (subst (λ y. IsShifted k y z) e t) r)) (λ e. zn (one_to k j z n (subst (λ y. IsShifted k y z) e t) s))));
 }
 
-pub after_down : (small large : List (ℕ × Bool)) (k i j m n : ℕ) → IsSpread small large k → IsKeptAfter large m n → Rises k i m → Rises k j n → IsKeptAfter small i j
+pub after_down : (small large : List (ℕ × Bool)) (k i j m n : ℕ) → IsSpread small large k → IsKeptAfter large m n → IsShifted k i m → IsShifted k j n → IsKeptAfter small i j
 after_down small large k i j m n sp after r s = record {
   kept = kept_down small large k j n sp s after.kept;
   first = λ x kx xi xj. (let (z, t) = risen k x in
-      come_down k i j x m n z r s t (after.first z (sp.up x z t kx) (λ e. xi (one_from k x i m (subst (λ y. Rises k x y) e t) r)) (λ e. xj (one_from k x j n (subst (λ y. Rises k x y) e t) s))));
+      come_down k i j x m n z r s t (after.first z (sp.up x z t kx) (λ e. xi (one_from k x i m (subst (λ y. IsShifted k x y) e t) r)) (λ e. xj (one_from k x j n (subst (λ y. IsShifted k x y) e t) s))));
 }
 
-pub before_down : (small large : List (ℕ × Bool)) (k i j m n : ℕ) → IsSpread small large k → IsKeptBefore large m n → Rises k i m → Rises k j n → IsKeptBefore small i j
+pub before_down : (small large : List (ℕ × Bool)) (k i j m n : ℕ) → IsSpread small large k → IsKeptBefore large m n → IsShifted k i m → IsShifted k j n → IsKeptBefore small i j
 before_down small large k i j m n sp before r s = record {
   kept = kept_down small large k j n sp s before.kept;
   last = λ x kx xi xj. (let (z, t) = risen k x in
-      come_down k j i x n m z s r t (before.last z (sp.up x z t kx) (λ e. xi (one_from k x i m (subst (λ y. Rises k x y) e t) r)) (λ e. xj (one_from k x j n (subst (λ y. Rises k x y) e t) s))));
+      come_down k j i x n m z s r t (before.last z (sp.up x z t kx) (λ e. xi (one_from k x i m (subst (λ y. IsShifted k x y) e t) r)) (λ e. xj (one_from k x j n (subst (λ y. IsShifted k x y) e t) s))));
 }
 
 pub misses_same : (S : List Point) (c : ℕ) (small large : List (ℕ × Bool)) (k : ℕ) → IsSpread small large k → MissesSome S c small ↔ MissesSome S c large
@@ -111,22 +111,22 @@ spread_insert list k q hk = record {
     len : length (insert list k (q, false)) ≡ length list + 1
     len = length-insert list k (q, false) hk
 
-    moved : (i m : ℕ) → Rises k i m → i < length list → entry (insert list k (q, false)) m ≡ entry list i
+    moved : (i m : ℕ) → IsShifted k i m → i < length list → entry (insert list k (q, false)) m ≡ entry list i
     moved i m (inl (h, e)) hi = ap (λ x. entry (insert list k (q, false)) x) e ∙ get_or-insert_below list k (q, false) (0, false) i h hk
     moved i m (inr (h, e)) hi = ap (λ x. entry (insert list k (q, false)) x) e ∙ get_or-insert_above list k (q, false) (0, false) i h hk
 
-    in_range : (i m : ℕ) → Rises k i m → i < length list → m < length (insert list k (q, false))
+    in_range : (i m : ℕ) → IsShifted k i m → i < length list → m < length (insert list k (q, false))
     in_range i m (inl r) h = omega (arith, len)
     in_range i m (inr r) h = omega (arith, len)
 
-    up_at : (i m : ℕ) → Rises k i m → IsKept list i → IsKept (insert list k (q, false)) m
+    up_at : (i m : ℕ) → IsShifted k i m → IsKept list i → IsKept (insert list k (q, false)) m
     up_at i m r ki = (in_range i m r ki.0, ap (λ (p : ℕ × Bool). p.1) (moved i m r ki.0) ∙ ki.1)
 
-    from_range : (i m : ℕ) → Rises k i m → m < length (insert list k (q, false)) → i < length list
+    from_range : (i m : ℕ) → IsShifted k i m → m < length (insert list k (q, false)) → i < length list
     from_range i m (inl r) h = omega (arith, len)
     from_range i m (inr r) h = omega (arith, len)
 
-    down_at : (m : ℕ) → IsKept (insert list k (q, false)) m → (i : ℕ) × Rises k i m × IsKept list i
+    down_at : (m : ℕ) → IsKept (insert list k (q, false)) m → (i : ℕ) × IsShifted k i m × IsKept list i
     down_at m km = elim (equal_or_not m k) [
       | inl e ↦ absurd (false≢true (ap (λ (p : ℕ × Bool). p.1) (sym (get_or-insert_at list k (q, false) (0, false) hk)) ∙ ap (λ x. (entry (insert list k (q, false)) x).1) (sym e) ∙ km.1))
       | inr ne ↦
@@ -146,15 +146,15 @@ spread_remove list k hk free = record {
     len : length (remove list k) + 1 ≡ length list
     len = omega (arith, length-remove list k hk)
 
-    moved : (i m : ℕ) → Rises k i m → entry (remove list k) i ≡ entry list m
+    moved : (i m : ℕ) → IsShifted k i m → entry (remove list k) i ≡ entry list m
     moved i m (inl (h, e)) = get_or-remove_below list k (0, false) i h hk ∙ ap (λ x. entry list x) (sym e)
     moved i m (inr (h, e)) = get_or-remove_above list k (0, false) i h hk ∙ ap (λ x. entry list x) (sym e)
 
-    in_range : (i m : ℕ) → Rises k i m → i < length (remove list k) → m < length list
+    in_range : (i m : ℕ) → IsShifted k i m → i < length (remove list k) → m < length list
     in_range i m (inl r) h = omega (arith, len)
     in_range i m (inr r) h = omega (arith, len)
 
-    from_range : (i m : ℕ) → Rises k i m → m < length list → i < length (remove list k)
+    from_range : (i m : ℕ) → IsShifted k i m → m < length list → i < length (remove list k)
     from_range i m (inl r) h = omega (arith, len)
     from_range i m (inr r) h = omega (arith, len)
 
@@ -163,7 +163,7 @@ bare = record { before = 0; after = 0; opens = false }
 
 -- an unmarked entry comes: no link changes
 pub spread_by : (S : List Point) (c : ℕ) (small large : List (ℕ × Bool)) (links links' : List Link) (w : Bool) (k : ℕ) → HasRightLinks S c small links w → IsSpread small large k → IsOrderly S c large → length links' ≡ length large
-    → ((i m : ℕ) → Rises k i m → IsKept small i → link links' m ≡ link links i) → HasRightLinks S c large links' w
+    → ((i m : ℕ) → IsShifted k i m → IsKept small i → link links' m ≡ link links i) → HasRightLinks S c large links' w
 spread_by S c small large links links' w k ar sp so len moved = record {
   accepted = ar.accepted;
   order = so;
@@ -172,7 +172,7 @@ spread_by S c small large links links' w k ar sp so len moved = record {
   wide = (let f = misses_same S c small large k sp in (λ t. f.0 (ar.wide.0 t), λ h. ar.wide.1 (f.1 h)));
 }
   where
-    right_up : (i m : ℕ) → Rises k i m → IsKept small i → IsRightLink S c large m (link links' m)
+    right_up : (i m : ℕ) → IsShifted k i m → IsKept small i → IsRightLink S c large m (link links' m)
     right_up i m r ki =
         let g = ar.right i ki in
         let (x, rx) = risen k g.first in
@@ -189,7 +189,7 @@ spread_by S c small large links links' w k ar sp so len moved = record {
 
 -- an unmarked entry goes
 pub gathered_by : (S : List Point) (c : ℕ) (small large : List (ℕ × Bool)) (links links' : List Link) (w : Bool) (k : ℕ) → HasRightLinks S c large links' w → IsSpread small large k → IsOrderly S c small → length links ≡ length small
-    → ((i m : ℕ) → Rises k i m → IsKept small i → link links' m ≡ link links i) → HasRightLinks S c small links w
+    → ((i m : ℕ) → IsShifted k i m → IsKept small i → link links' m ≡ link links i) → HasRightLinks S c small links w
 gathered_by S c small large links links' w k ar sp so len moved = record {
   accepted = ar.accepted;
   order = so;
@@ -198,7 +198,7 @@ gathered_by S c small large links links' w k ar sp so len moved = record {
   wide = (let f = misses_same S c small large k sp in (λ t. f.1 (ar.wide.0 t), λ h. ar.wide.1 (f.0 h)));
 }
   where
-    right_down : (i m : ℕ) → Rises k i m → IsKept small i → IsRightLink S c small i (link links i)
+    right_down : (i m : ℕ) → IsShifted k i m → IsKept small i → IsRightLink S c small i (link links i)
     right_down i m r ki =
         let g = ar.right m (sp.up i m r ki) in
         let (x, rx, kx) = sp.down g.first g.before.kept in
@@ -224,7 +224,7 @@ insert_done S c list new links ls w k q d ar hk hq apart before after e_new e_ls
     hk' : k ≤ length links
     hk' = omega (arith, ar.len)
 
-    here : (i m : ℕ) → Rises k i m → link (insert links k d) m ≡ link links i
+    here : (i m : ℕ) → IsShifted k i m → link (insert links k d) m ≡ link links i
     here i m (inl (h, e)) = ap (λ x. link (insert links k d) x) e ∙ get_or-insert_below links k d bare i h hk'
     here i m (inr (h, e)) = ap (λ x. link (insert links k d) x) e ∙ get_or-insert_above links k d bare i h hk'
 
@@ -237,7 +237,7 @@ remove_done S c list new links ls w k ar hk spare e_new e_ls =
     hk' : k < length links
     hk' = omega (arith, ar.len)
 
-    here : (i m : ℕ) → Rises k i m → link links m ≡ link (remove links k) i
+    here : (i m : ℕ) → IsShifted k i m → link links m ≡ link (remove links k) i
     here i m (inl (h, e)) = ap (λ x. link links x) e ∙ sym (get_or-remove_below links k bare i h hk')
     here i m (inr (h, e)) = ap (λ x. link links x) e ∙ sym (get_or-remove_above links k bare i h hk')
 

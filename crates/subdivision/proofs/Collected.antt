@@ -6,7 +6,7 @@ use Rattle.std.proofs.lemmas.List.Quantifiers.{all_pairs_push}
 use Rattle.plane.specs.declared.segment.Pair.{Pair}
 use Rattle.star.specs.Stars.{Seen, entry}
 use Rattle.subdivision.specs.Layout.{star_at}
-use Rattle.subdivision.specs.Listing.{picks, IsTidy, IsPicked, HasRow, HasRows, Takes}
+use Rattle.subdivision.specs.Listing.{picks, IsTidy, IsPicked, HasRow, HasRows, Collects}
 use Rattle.plane.proofs.laws.Pairs.{pair_same}
 use Rattle.partition_defs.proofs.laws.Has.{has_of, contains_of, has_at, has_append, append_has}
 use Rattle.subdivision.proofs.Members.{neighbour_of, has_neighbour, mark_of, has_mark}
@@ -28,7 +28,7 @@ row_begins ko old v s distinct = record {
 
 -- the step to the next neighbour
 pub row_step : (ko : Bool) (old list new : List Pair) (v : ℕ) (s : Seen) (k w : ℕ) (kept wanted : Bool) (n : ℕ) → HasRow ko old list v s k → ((e : Pair) → Contains old e → e.lo ≢ v) → IsTidy n s → k < length s.list → entry s.list k ≡ (w, kept)
-    → (IsTrue wanted ↔ (ko ≡ true → kept ≡ true)) → Takes list new v w wanted → HasRow ko old new v s (k + 1)
+    → (IsTrue wanted ↔ (ko ≡ true → kept ≡ true)) → Collects list new v w wanted → HasRow ko old new v s (k + 1)
 row_step ko old list new v s k w kept wanted n so none tidy hk at means (inl (rises, wants, more)) =
     let (p, lo, hi, is) = more in
     let picked : IsPicked ko s (k + 1) p.hi = (k, omega arith, hk, ap (λ (e : ℕ × Bool). e.0) at ∙ sym hi, λ t. ap (λ (e : ℕ × Bool). e.1) at ∙ means.0 wants t) in

@@ -19,7 +19,7 @@ use Rattle.star.proofs.laws.Marks.{gains_neighbour, gains_mark, marks_neighbour,
 use Rattle.star.proofs.laws.Directions.{not_opposed}
 use Rattle.number_laws.proofs.Naturals.{equal_or_not}
 use Rattle.subdivision.specs.Layout.{star_at, AreStarsOf}
-use Rattle.subdivision.specs.Joining.{Links, LinksEnds}
+use Rattle.subdivision.specs.Joining.{GainsKept, GainsKeptEnds}
 use Rattle.partition_defs.proofs.laws.Has.{Has, has_of, contains_of, has_append, append_has}
 use Rattle.partition_defs.proofs.laws.Joined.{joined, joins_of}
 use Rattle.star.proofs.laws.Marks.{marked_neighbour}
@@ -35,7 +35,7 @@ same_list_mark old mid e u =
     (λ h. subst P e h, λ h. subst P (sym e) h)
 
 -- room, an insert and a mark make a kept neighbour
-pub linked : (old room put new : Seen) (w : ℕ) → room.list ≡ old.list → SamePlace old room → Gains room put w → SamePlace room put → Marks put new w true → IsStar new → Links old new w
+pub linked : (old room put new : Seen) (w : ℕ) → room.list ≡ old.list → SamePlace old room → Gains room put w → SamePlace room put → Marks put new w true → IsStar new → GainsKept old new w
 linked old room put new w list here gains there mark star =
     let is = mark.2 in
     record {
@@ -123,7 +123,7 @@ joins_more U e v w = (to, from)
     from (inr h) = joins_of (U ++ e ∷ []) e v w (append_has U (e ∷ []) e (inr (inl refl))) h
 
 -- the star of an end of the new segment
-grown_star : (S : List Point) (U : List Pair) (e : Pair) (v w : ℕ) (old new : Seen) → HasEnds e v w → v ≢ w → IsStarOf S U U v old → Links old new w → IsStarOf S (U ++ e ∷ []) (U ++ e ∷ []) v new
+grown_star : (S : List Point) (U : List Pair) (e : Pair) (v w : ℕ) (old new : Seen) → HasEnds e v w → v ≢ w → IsStarOf S U U v old → GainsKept old new w → IsStarOf S (U ++ e ∷ []) (U ++ e ∷ []) v new
 grown_star S U e v w old new ends apart so links = record {
   star = links.star;
   centre = links.place.0 ∙ so.centre;
@@ -157,7 +157,7 @@ same_star S U e v s lo hi so = record {
     old : (u : ℕ) → Joins (U ++ e ∷ []) v u → Joins U v u
     old u h = elim ((joins_more U e v u).0 h) [ inl k ↦ k | inr k ↦ absurd (elim k [ inl x ↦ lo (sym x.0) | inr x ↦ hi (sym x.1) ]) ]
 
-pub grown : (S : List Point) (U : List Pair) (e : Pair) (old new : List Seen) → AreStarsOf S U U old → LinksEnds old new e → e.hi < length S → AreStarsOf S (U ++ e ∷ []) (U ++ e ∷ []) new
+pub grown : (S : List Point) (U : List Pair) (e : Pair) (old new : List Seen) → AreStarsOf S U U old → GainsKeptEnds old new e → e.hi < length S → AreStarsOf S (U ++ e ∷ []) (U ++ e ∷ []) new
 grown S U e old new so links high = (links.count ∙ so.0, at)
   where
     at : (v : ℕ) → v < length S → IsStarOf S (U ++ e ∷ []) (U ++ e ∷ []) v (star_at new v)
@@ -185,7 +185,7 @@ front : (xs ys : List Seen) (n : ℕ) → length xs ≡ n → take n (xs ++ ys) 
 front xs ys n len = subst (λ m. take m (xs ++ ys) ≡ xs) len (take-append_seam xs ys)
 
 -- the step to the next segment of a list
-pub grown_step : (S : List Point) (pairs : List Pair) (k : ℕ) (e : Pair) (items now new rest : List Seen) (n : ℕ) → e ≡ get_or pairs k e → k < length pairs → now ≡ items → length now ≡ n → AreStarsOf S (take k pairs) (take k pairs) items → LinksEnds now new e → e.hi < length S
+pub grown_step : (S : List Point) (pairs : List Pair) (k : ℕ) (e : Pair) (items now new rest : List Seen) (n : ℕ) → e ≡ get_or pairs k e → k < length pairs → now ≡ items → length now ≡ n → AreStarsOf S (take k pairs) (take k pairs) items → GainsKeptEnds now new e → e.hi < length S
     → AreStarsOf S (take (k + 1) pairs) (take (k + 1) pairs) (take n (new ++ rest))
 grown_step S pairs k e items now new rest n is hk same len so links high =
     let before = subst (AreStarsOf S (take k pairs) (take k pairs)) (sym same) so in

@@ -1,5 +1,6 @@
+pub mod laws
 pub mod Rows
 pub mod Members
 pub mod Growing
 pub mod Collected
-pub mod laws
+pub mod Tidy

@@ -31,8 +31,8 @@ pub record HasRow (kept_only : Bool) (old new : List Pair) (v : ℕ) (s : Seen) 
   pub members : (e : Pair) → Contains new e ↔ (Contains old e ⊎ ((e.lo ≡ v) × IsPicked kept_only s k e.hi))
 
 -- the segment from v to w has come in where it is wanted and w is larger
-abbrev pub Takes : (old new : List Pair) → (v w : ℕ) → Bool → Type 0
-Takes old new v w wanted =
+abbrev pub Collects : (old new : List Pair) → (v w : ℕ) → Bool → Type 0
+Collects old new v w wanted =
     ((v < w) × (wanted ≡ true) × ((p : Pair) × (p.lo ≡ v) × (p.hi ≡ w) × (new ≡ old ++ p ∷ []))) ⊎ (¬ ((v < w) × (wanted ≡ true)) × (new ≡ old))
 
 -- a list without repeats of the segments whose smaller end is below v

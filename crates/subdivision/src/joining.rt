@@ -4,7 +4,7 @@ ghost use Rattle.star.specs.Stars.{IsStar, IsFree};
 ghost use Rattle.star.specs.StarOf.{IsStarOf};
 ghost use Rattle.partition_defs.specs.Triangulation.{IsTriangulation, AreDistinct};
 ghost use Rattle.subdivision.specs.Layout.{star_at, AreStarsOf};
-ghost use Rattle.subdivision.specs.Joining.{Links, LinksEnds};
+ghost use Rattle.subdivision.specs.Joining.{GainsKept, GainsKeptEnds};
 
 use mcp_outside::NoMemory;
 use plane::{Pair, Points};
@@ -51,7 +51,7 @@ fn link_ends(points: &Points, stars: &mut [Star], pair: Pair) -> Result<(), NoMe
     requires centres { (v : ℕ) → v < length points.now → (star_at stars.old v).centre ≡ v }
     requires lower { IsFree (star_at stars.old pair.lo) pair.hi }
     requires upper { IsFree (star_at stars.old pair.hi) pair.lo }
-    ensures { OnOk result (LinksEnds stars.old stars.new pair) }
+    ensures { OnOk result (GainsKeptEnds stars.old stars.new pair) }
 {
     let lower = &mut stars[pair.lo() as usize];
     link(points, lower, pair.hi())?;
@@ -65,7 +65,7 @@ fn link(points: &Points, star: &mut Star, w: u32) -> Result<(), NoMemory>
     requires within { w < length points.now }
     requires apart { w ≢ star.old.centre }
     requires free { IsFree star.old w }
-    ensures { OnOk result (Links star.old star.new w) }
+    ensures { OnOk result (GainsKept star.old star.new w) }
 {
     star.reserve(1)?;
     star.insert(points, w);

@@ -3,7 +3,7 @@ ghost use Rattle.std.specs.Prelude.{◌≡◌, ◌≢◌, ◌<◌, ℕ, length, 
 ghost use Rattle.std.specs.List.{AllPairs, Contains};
 ghost use Rattle.plane.specs.declared.segment.Pair.{Pair};
 ghost use Rattle.subdivision.specs.Layout.{star_at};
-ghost use Rattle.subdivision.specs.Listing.{picked_of, AreTidy, IsTidy, HasRow, HasRows, Takes, IsSortedFrom};
+ghost use Rattle.subdivision.specs.Listing.{picked_of, AreTidy, IsTidy, HasRow, HasRows, Collects, IsSortedFrom};
 
 use mcp_outside::NoMemory;
 use plane::Pair;
@@ -53,7 +53,7 @@ fn is_wanted(kept: bool, kept_only: bool) -> bool
 
 // Adds the segment from v to w where it is wanted and w is larger.
 fn add_one(v: u32, w: u32, wanted: bool, list: &mut Vec<Pair>) -> Result<(), NoMemory>
-    ensures { OnOk result (Takes list.old.items list.new.items v w wanted) }
+    ensures { OnOk result (Collects list.old.items list.new.items v w wanted) }
 {
     if v < w {
         add_wanted(v, w, wanted, list)
@@ -64,7 +64,7 @@ fn add_one(v: u32, w: u32, wanted: bool, list: &mut Vec<Pair>) -> Result<(), NoM
 
 fn add_wanted(v: u32, w: u32, wanted: bool, list: &mut Vec<Pair>) -> Result<(), NoMemory>
     requires { v < w }
-    ensures { OnOk result (Takes list.old.items list.new.items v w wanted) }
+    ensures { OnOk result (Collects list.old.items list.new.items v w wanted) }
 {
     if wanted {
         list.push(Pair::of(v, w))?;

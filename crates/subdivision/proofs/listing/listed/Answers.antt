@@ -1,7 +1,7 @@
 use Rattle.std.proofs.Common.{length, subst, sym, arith, ◌≡◌}
 use Rattle.subdivision.specs.Listing.{HasRows}
 use Rattle.subdivision.proofs.Collected.{rows_begin, rows_step, rows_apart}
-use Rattle.subdivision.proofs.laws.Sorting.{tidy_at, star_read, sorted_rows}
+use Rattle.subdivision.proofs.Tidy.{tidy_at, star_read, sorted_rows}
 use Rattle.subdivision.proofs.listing.listed.Goals as goal
 
 pub loop-v-init : goal.loop-v-init

@@ -2,7 +2,7 @@ use Rattle.std.proofs.Common.{subst, sym}
 use Rattle.subdivision.specs.Layout.{IsSubdivision}
 use Rattle.subdivision.specs.Listing.{AreTidy}
 use Rattle.subdivision.proofs.Members.{subdivision_own}
-use Rattle.subdivision.proofs.laws.Sorting.{tidy_of}
+use Rattle.subdivision.proofs.Tidy.{tidy_of}
 use Rattle.subdivision.proofs.subdivision.Subdivision.kept_pairs.Goals as goal
 
 pub listed-requires : goal.listed-requires

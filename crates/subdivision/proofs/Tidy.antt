@@ -1,24 +1,12 @@
 -- What is collected from tidy stars, sorted, is the list that the stars tell.
-use Rattle.std.proofs.Common.{◌≡◌, ◌≢◌, ℕ, zero, suc, ◌+◌, ◌-◌, ◌<◌, Bool, true, false, ◌&&◌, eqb, List, length, get_or, inl, inr, arith, sym, ◌∙◌, ap, subst, refl, IsPermutation, nat_cmp, is_lt}
-use Rattle.std.specs.declared.cmp.Ordering.TheVariants.{Less, Equal}
-use Rattle.std.specs.List.{AllPairs}
-use Rattle.std.specs.Bool.{Decides}
-use Rattle.std.specs.Cmp.{nat_cmp_is}
-use Rattle.std.specs.Ordering.{ordering_then}
-use Rattle.std.proofs.lemmas.Bool.{false≢true, cases_lt}
-use Rattle.std.proofs.lemmas.Bool.Decides.{Decides-eqb}
-use Rattle.std.proofs.lemmas.List.Sorted.{Contains-permutation, IsPermutation-sym}
-use Rattle.std.proofs.lemmas.Map.Keys.{IsDistinct-IsPermutation}
-use Rattle.std.proofs.lemmas.Map.Made.{AllPairs-from_IsDistinct, IsDistinct-from_AllPairs}
+use Rattle.std.proofs.Common.{◌≡◌, ℕ, ◌<◌, Bool, true, false, List, length, get_or, arith, sym, ◌∙◌, ap, subst}
 use Rattle.plane.specs.declared.segment.Pair.{Pair}
 use Rattle.std.proofs.lemmas.List.{get_or_default}
 use Rattle.plane.specs.declared.coordinates.Point.{Point}
 use Rattle.plane.specs.Geometry.{point}
-use Rattle.plane.proofs.laws.Pairs.{pair_same}
 use Rattle.star.specs.Turn.{IsBeforeInTurn}
 use Rattle.star.specs.Stars.{Seen, entry}
 use Rattle.star.proofs.laws.Turning.{never_before_itself}
-use Rattle.partition_defs.specs.Ascending.{ComesFirst, IsAscending}
 use Rattle.subdivision.specs.Layout.{star_at, has, keeps, AreAgreed}
 use Rattle.subdivision.specs.Listing.{picks, picked_of, IsTidy, AreTidy, HasRows, IsSortedFrom}
 use Rattle.partition_defs.proofs.laws.Has.{has_of, contains_of, one_list, rises_of}

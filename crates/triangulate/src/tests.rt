@@ -208,11 +208,7 @@ fn round(alloc: Global, all: &Subdivision, v: u32) -> Result<Vec<(u32, bool)>, F
 // The corners of a square and its middle: apexes on either side, and the stars before and after they are taken apart.
 #[test]
 fn stars_and_apexes_of_a_square(rt: HostRuntime) -> Result<(), Fail> {
-    let points = points_of(
-        &rt,
-        rt.alloc(),
-        &[(0, 0), (0, 4), (4, 0), (4, 4), (2, 2)],
-    )?;
+    let points = points_of(&rt, rt.alloc(), &[(0, 0), (0, 4), (4, 0), (4, 4), (2, 2)])?;
     let all = start(rt.alloc(), &points)?;
     let rows = [
         (0, 4, Some(1)),

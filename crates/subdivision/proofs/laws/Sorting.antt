@@ -1,5 +1,5 @@
 -- A sorted list of pairs without repeats is ascending.
-use Rattle.std.proofs.Common.{◌≡◌, ◌≢◌, ℕ, zero, suc, ◌+◌, ◌-◌, ◌<◌, Bool, true, false, List, length, get_or, inl, inr, arith, sym, ◌∙◌, ap, subst, refl, IsPermutation, nat_cmp, is_lt}
+use Rattle.std.proofs.Common.{◌≡◌, ◌≢◌, ℕ, zero, suc, ◌+◌, ◌-◌, ◌<◌, false, List, length, get_or, inl, inr, arith, sym, ◌∙◌, ap, subst, IsPermutation, nat_cmp, is_lt}
 use Rattle.std.specs.declared.cmp.Ordering.TheVariants.{Less, Equal}
 use Rattle.std.specs.List.{AllPairs}
 use Rattle.std.specs.Cmp.{nat_cmp_is}

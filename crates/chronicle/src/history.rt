@@ -4,7 +4,7 @@ use index_sets::Entry;
 use std::marker::Model;
 use std::snapshot::Snapshot;
 
-/// A history. It has parts, the numbers 0, 1 and so on, and callers, the numbers 1, 2 and so on. Threads share it by
+/// A history. It has parts, the numbers 0, 1 and so on, and callers, the numbers 1, 2 and so on. All calls take it by
 /// reference. Contracts see its name: its last part, its number of callers and the entries that it began with.
 #[derive(Drop)]
 pub struct Chronicle<T: Entry> {

@@ -13,9 +13,10 @@ use Rattle.plane_laws.specs.Order.{IsBefore}
 use Rattle.plane_laws.proofs.Between.{by_order}
 use Rattle.border.specs.Cycle.{at, after, IsBorderCycle}
 use Rattle.border.specs.Walk.{seen, AreFirstAndLast, IsTrail, HasWalked}
-use Rattle.border.proofs.Lower.{not_back, not_self}
+use Rattle.border.proofs.Lower.{not_self}
 use Rattle.border.proofs.Turned.{turned_back, back_turned, same_place}
 use Rattle.border.proofs.Trails.{trail_order, trail_inside, trail_meets}
+use Rattle.plane_laws.proofs.Order.{before_asym}
 
 pub ends_true : (S : List Point) (m M : ℕ) → m < length S → M < length S → ((k : ℕ) → k < length S → k ≢ m → IsBefore (seen S true m) (seen S true k)) → ((k : ℕ) → k < length S → k ≢ M → IsBefore (seen S false M) (seen S false k)) → AreFirstAndLast S true m M
 ends_true S m M hm hM first last = record { from_in = hm; to_in = hM; first = first; last = λ k h ne. back_turned (point S M) (point S k) (last k h ne) }
@@ -93,7 +94,7 @@ round_of S m M C D accepted there back some_c some_d up down =
     let g = left_step_once S v (at (C ++ M ∷ []) (i + 1)) (at (D ++ m ∷ []) (j + 1)) accepted (trail_inside S true m (C ++ M ∷ []) up there.from_in i (omega arith)) one two in
     let on = up.rises i (omega arith) in
     let off = back_turned (point S w) (point S (at (D ++ m ∷ []) (j + 1))) (down.rises j (omega arith)) in
-    not_back (point S v) (point S (at (C ++ M ∷ []) (i + 1))) on (subst (λ y. IsBefore (point S y) (point S v)) (sym g) (subst (λ x. IsBefore (point S (at (D ++ m ∷ []) (j + 1))) (point S x)) f off))) in
+    before_asym (point S v) (point S (at (C ++ M ∷ []) (i + 1))) on (subst (λ y. IsBefore (point S y) (point S v)) (sym g) (subst (λ x. IsBefore (point S (at (D ++ m ∷ []) (j + 1))) (point S x)) f off))) in
     record {
       accepted = accepted;
       steps = split (λ i. IsBorderStep S Left (at B i) (at B (after (length B) i))) step_low step_high;

@@ -2,19 +2,19 @@
 -- so that the same holds of the upper border, whose points are turned by half a turn.
 use Rattle.std.proofs.Common.{◌≡◌, ◌≢◌, ℕ, zero, suc, ◌+◌, ◌<◌, ◌≤◌, ℤ, pos, ◌-ℤ◌, ◌<ℤ◌, ◌≤ℤ◌, ◌⊎◌, inl, inr, arith, sym, ap, subst, refl}
 use Rattle.std.proofs.lemmas.Int.{ints}
-use Rattle.std.proofs.Math.IntN.{*ℤ_comm}
 use Rattle.plane.specs.declared.coordinates.Point.{Point}
 use Rattle.plane.specs.Geometry.{area}
-use Rattle.number_laws.proofs.Products.{mul_differences}
 use Rattle.number_laws.proofs.Crosses.{cross}
 use Rattle.number_laws.proofs.Signs.{by_sign, zero_left}
 use Rattle.plane_laws.specs.Order.{IsBefore}
 use Rattle.plane_laws.proofs.Steps.{turn_weak, turn_first}
-use Rattle.plane_laws.proofs.Orientations.{ahead, in_line, area_steps}
+use Rattle.plane_laws.proofs.Orientations.{ahead, in_line, area_steps, area_steps_before, area_steps_into}
 use Rattle.plane_laws.proofs.Between.{by_order, area_is_cross}
 use Rattle.number_laws.proofs.Naturals.{below_or_last}
 use Rattle.plane_laws.proofs.Order.{before_trans}
 use Rattle.plane.proofs.laws.Area.{area_second, area_swap}
+use Rattle.number_laws.proofs.Signs.{zero_of_both}
+use Rattle.plane_laws.proofs.Order.{before_asym}
 
 -- the step from v to w leads on, has all points on its left or on its line, and none between its ends
 pub record IsLower (P : ℕ → Point) (n v w : ℕ) : Type 0 where
@@ -23,27 +23,9 @@ pub record IsLower (P : ℕ → Point) (n v w : ℕ) : Type 0 where
   pub left : (k : ℕ) → k < n → pos 0 ≤ℤ area (P v) (P w) (P k)
   pub clear : (k : ℕ) → k < n → IsBefore (P v) (P k) → IsBefore (P k) (P w) → area (P v) (P w) (P k) ≢ pos 0
 
-pub not_back : (p q : Point) → IsBefore p q → IsBefore q p → ⊥
-not_back p q (inl a) (inl b) = omega (arith, ints)
-not_back p q (inl a) (inr b) = omega (arith, ints, b.0)
-not_back p q (inr a) (inl b) = omega (arith, ints, a.0)
-not_back p q (inr a) (inr b) = omega (arith, ints, a.1, b.1)
-
 pub not_self : (p q : Point) → p.x ≡ q.x → p.y ≡ q.y → IsBefore p q → ⊥
 not_self p q ex ey (inl h) = omega (arith, ints)
 not_self p q ex ey (inr h) = omega (arith, ints, h.1)
-
--- the area by the area_steps from r to p and from p to q
-to_first : (p q r : Point) → area p q r ≡ cross (p.x -ℤ r.x) (p.y -ℤ r.y) (q.x -ℤ p.x) (q.y -ℤ p.y)
-unfolding area
-to_first p q r =
-    omega (arith, ints, mul_differences q.x p.x r.y p.y, mul_differences q.y p.y r.x p.x, mul_differences p.x r.x q.y p.y, mul_differences p.y r.y q.x p.x, *ℤ_comm q.x r.y, *ℤ_comm q.x p.y, *ℤ_comm p.x r.y, *ℤ_comm p.x p.y, *ℤ_comm q.y r.x, *ℤ_comm q.y p.x, *ℤ_comm p.y r.x, *ℤ_comm r.x q.y)
-
--- the area by the area_steps from r to q and from p to q
-to_second : (p q r : Point) → area p q r ≡ cross (q.x -ℤ r.x) (q.y -ℤ r.y) (q.x -ℤ p.x) (q.y -ℤ p.y)
-unfolding area
-to_second p q r =
-    omega (arith, ints, mul_differences q.x p.x r.y p.y, mul_differences q.y p.y r.x p.x, mul_differences q.x r.x q.y p.y, mul_differences q.y r.y q.x p.x, *ℤ_comm q.x r.y, *ℤ_comm q.x p.y, *ℤ_comm p.x r.y, *ℤ_comm p.x p.y, *ℤ_comm q.y r.x, *ℤ_comm q.y p.x, *ℤ_comm p.y r.x, *ℤ_comm r.x q.y, *ℤ_comm q.x q.y, *ℤ_comm r.x p.y, *ℤ_comm r.y q.x, *ℤ_comm p.x q.y)
 
 -- one lower step doesn't begin within another
 pub no_overlap : (P : ℕ → Point) (n v w a b : ℕ) → IsLower P n v w → IsLower P n a b → v < n → a < n → IsBefore (P v) (P a) → IsBefore (P a) (P w) → ⊥
@@ -51,12 +33,9 @@ no_overlap P n v w a b first second hv ha va aw =
     let g = second.left v hv in let h = second.left w first.within in
     let t = turn_weak ((P a).x -ℤ (P v).x) ((P a).y -ℤ (P v).y) ((P b).x -ℤ (P a).x) ((P b).y -ℤ (P a).y) ((P w).x -ℤ (P a).x) ((P w).y -ℤ (P a).y)
     (ahead (P v) (P a) va) (ahead (P a) (P b) second.leads) (ahead (P a) (P w) aw)
-    (subst (λ z. pos 0 ≤ℤ z) (to_first (P a) (P b) (P v)) g) (subst (λ z. pos 0 ≤ℤ z) (area_is_cross (P a) (P b) (P w)) h) in
+    (subst (λ z. pos 0 ≤ℤ z) (area_steps_before (P a) (P b) (P v)) g) (subst (λ z. pos 0 ≤ℤ z) (area_is_cross (P a) (P b) (P w)) h) in
     let e = area_steps (P v) (P a) (P w) in let f = area_swap (P v) (P a) (P w) in
-    first.clear a ha va aw (zero (area (P v) (P w) (P a)) (first.left a ha) (omega (arith, ints)))
-  where
-    zero : (z : ℤ) → pos 0 ≤ℤ z → z ≤ℤ pos 0 → z ≡ pos 0
-    zero z a b = omega (arith, ints)
+    first.clear a ha va aw (zero_of_both (area (P v) (P w) (P a)) (first.left a ha) (omega (arith, ints)))
 
 -- the best end of a step from v among the points below k
 record IsBest (P : ℕ → Point) (n v k w : ℕ) : Type 0 where
@@ -122,10 +101,10 @@ best P n v m (suc k) hm vm hk =
     (λ s. by_order (P k) (P w)
     (λ kw. done k (take P n v k w so (omega arith) vk (inr (s, kw))))
     (λ ex ey. done w (keep P n v k w so (λ _. omega (arith, ints)) (λ _ b _. not_self (P k) (P w) ex ey b)))
-    (λ wk. done w (keep P n v k w so (λ _. omega (arith, ints)) (λ _ b _. not_back (P w) (P k) wk b))))
+    (λ wk. done w (keep P n v k w so (λ _. omega (arith, ints)) (λ _ b _. before_asym (P w) (P k) wk b))))
     (λ s. done k (take P n v k w so (omega arith) vk (inl s))))
     (λ ex ey. done w (keep P n v k w so (λ a. absurd (not_self (P v) (P k) ex ey a)) (λ a b z. not_self (P v) (P k) ex ey a)))
-    (λ kv. done w (keep P n v k w so (λ a. absurd (not_back (P v) (P k) a kv)) (λ a b z. not_back (P v) (P k) a kv)))
+    (λ kv. done w (keep P n v k w so (λ a. absurd (before_asym (P v) (P k) a kv)) (λ a b z. before_asym (P v) (P k) a kv)))
 
 nothing : (ux uy vx vy : ℤ) → ux ≡ pos 0 → uy ≡ pos 0 → cross ux uy vx vy ≡ pos 0
 nothing ux uy vx vy ex ey = let a = zero_left ux vy ex in let b = zero_left uy vx ey in omega (arith, ints)
@@ -144,12 +123,12 @@ leads_on P n v m hm hv vm start =
     )
   where
     same : (w k : ℕ) → (P v).x ≡ (P k).x → (P v).y ≡ (P k).y → pos 0 ≤ℤ area (P v) (P w) (P k)
-    same w k ex ey = let e = to_first (P v) (P w) (P k) in let z = nothing ((P v).x -ℤ (P k).x) ((P v).y -ℤ (P k).y) ((P w).x -ℤ (P v).x) ((P w).y -ℤ (P v).y) (omega (arith, ints)) (omega (arith, ints)) in omega (arith, ints)
+    same w k ex ey = let e = area_steps_before (P v) (P w) (P k) in let z = nothing ((P v).x -ℤ (P k).x) ((P v).y -ℤ (P k).y) ((P w).x -ℤ (P v).x) ((P w).y -ℤ (P v).y) (omega (arith, ints)) (omega (arith, ints)) in omega (arith, ints)
 
     behind : (w k : ℕ) → k < n → IsBefore (P v) (P w) → w < n → IsBefore (P k) (P v) → ((p : ℕ) → p < n → ¬ IsBefore (P p) (P v)) ⊎ ((u : ℕ) × IsLower P n u v) → pos 0 ≤ℤ area (P v) (P w) (P k)
     behind w k h vw hw kv (inl none) = absurd (none k h kv)
     behind w k h vw hw kv (inr (u, low)) =
-        let a = to_second (P u) (P v) (P k) in let b = area_steps (P u) (P v) (P w) in let c = to_first (P v) (P w) (P k) in
+        let a = area_steps_into (P u) (P v) (P k) in let b = area_steps (P u) (P v) (P w) in let c = area_steps_before (P v) (P w) (P k) in
         let t = turn_weak ((P v).x -ℤ (P k).x) ((P v).y -ℤ (P k).y) ((P v).x -ℤ (P u).x) ((P v).y -ℤ (P u).y) ((P w).x -ℤ (P v).x) ((P w).y -ℤ (P v).y)
         (ahead (P k) (P v) kv) (ahead (P u) (P v) low.leads) (ahead (P v) (P w) vw)
         (subst (λ z. pos 0 ≤ℤ z) a (low.left k h)) (subst (λ z. pos 0 ≤ℤ z) b (low.left w hw)) in

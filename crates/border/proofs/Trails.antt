@@ -15,10 +15,11 @@ use Rattle.plane_laws.specs.Order.{IsBefore}
 use Rattle.plane_laws.proofs.Between.{by_order}
 use Rattle.border.specs.Cycle.{at}
 use Rattle.border.specs.Walk.{seen, AreFirstAndLast, IsTrail, CanGoOn}
-use Rattle.border.proofs.Lower.{not_back, not_self, no_overlap, leads_on}
+use Rattle.border.proofs.Lower.{not_self, no_overlap, leads_on}
 use Rattle.border.proofs.Turned.{step_of, lower_of, same_place}
 use Rattle.plane_laws.proofs.Order.{before_trans}
 use Rattle.plane.proofs.laws.Border.{left_step_once}
+use Rattle.plane_laws.proofs.Order.{before_asym}
 
 pub trail_begins : (S : List Point) (b : Bool) (v : ℕ) → IsTrail S b v (v ∷ [])
 trail_begins S b v = record { begins = refl; steps = λ j h. absurd (omega arith); rises = λ j h. absurd (omega arith) }
@@ -89,7 +90,7 @@ ends_differ S b from to accepted ends same = elim (other from) [ inl h ↦ clash
     other v = elim (cases_lt 0 v) [ inl h ↦ inl (omega arith) | inr h ↦ inr (omega arith) ]
 
     clash : (k : ℕ) → k < length S → k ≢ from → ⊥
-    clash k h ne = not_back (seen S b from) (seen S b k) (ends.first k h ne) (subst (λ t. IsBefore (seen S b k) (seen S b t)) (sym same) (ends.last k h (λ e. ne (e ∙ sym same))))
+    clash k h ne = before_asym (seen S b from) (seen S b k) (ends.first k h ne) (subst (λ t. IsBefore (seen S b k) (seen S b t)) (sym same) (ends.last k h (λ e. ne (e ∙ sym same))))
 
 -- a walk goes on from each point but the last
 pub trail_can : (S : List Point) (b : Bool) (from to v : ℕ) (C : List ℕ) → AreFirstAndLast S b from to → IsTrail S b from (C ++ v ∷ []) → v < length S → v ≢ to → CanGoOn S b v
@@ -97,9 +98,9 @@ trail_can S b from to v C ends so hv ne = ((to, ends.to_in, ends.last v hv ne), 
   where
     none_before : (p : ℕ) → p < length S → ¬ IsBefore (seen S b p) (seen S b from)
     none_before p h k = elim (cases_lt p from) [
-      | inl l ↦ not_back (seen S b p) (seen S b from) k (ends.first p h (omega arith))
+      | inl l ↦ before_asym (seen S b p) (seen S b from) k (ends.first p h (omega arith))
       | inr l ↦ elim (cases_lt from p) [
-        | inl g ↦ not_back (seen S b p) (seen S b from) k (ends.first p h (omega arith))
+        | inl g ↦ before_asym (seen S b p) (seen S b from) k (ends.first p h (omega arith))
         | inr g ↦ (let e : p ≡ from = omega arith in not_self (seen S b from) (seen S b from) refl refl (subst (λ x. IsBefore (seen S b x) (seen S b from)) e k))
       ]
     ]
@@ -127,7 +128,7 @@ trail_meets S b from to a c C accepted ends so ha step leads = look (length C) 0
     not_after : (x : ℕ) → x < length S → ¬ IsBefore (seen S b to) (seen S b x)
     not_after x h k = elim (same x to) [
       | inl e ↦ not_self (seen S b to) (seen S b to) refl refl (subst (λ y. IsBefore (seen S b to) (seen S b y)) e k)
-      | inr ne ↦ not_back (seen S b to) (seen S b x) k (ends.last x h ne)
+      | inr ne ↦ before_asym (seen S b to) (seen S b x) k (ends.last x h ne)
     ]
 
     look : (m j : ℕ) → j + m ≡ length C → (at (C ++ to ∷ []) j ≡ a) ⊎ IsBefore (seen S b (at (C ++ to ∷ []) j)) (seen S b a) → (i : ℕ) × (i < length C) × (at (C ++ to ∷ []) i ≡ a)

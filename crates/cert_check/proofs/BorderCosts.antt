@@ -11,20 +11,16 @@ use Rattle.plane.specs.declared.segment.Pair.{Pair}
 use Rattle.plane.specs.Accepted.{AreAccepted}
 use Rattle.plane.specs.Geometry.{IsBorderPair}
 use Rattle.plane.specs.Hull.{IsBorderStep}
-use Rattle.plane.proofs.laws.Border.{step_of_border, border_of_left}
+use Rattle.plane.proofs.laws.Border.{step_of_border, border_of_left, border_back, left_step_once, left_of_right}
 use Rattle.partition_defs.specs.Partition.{HasEnds, Joins}
 use Rattle.partition_defs.specs.Triangulation.{AreDistinct, IsBorderList}
 use Rattle.partition_defs.proofs.laws.Has.{has_of, contains_of}
-use Rattle.partition_defs.proofs.laws.Joined.{joined, joins_of, join_back, ends_back}
+use Rattle.partition_defs.proofs.laws.Joined.{joined, joins_of, join_back, ends_back, ends_of_new}
 use Rattle.cost_defs.specs.Costs.{Costed, cost, total}
-use Rattle.price_defs.proofs.laws.Sides.{border_turned}
-use Rattle.price_defs.proofs.laws.Sums.{contains_cases, contains_here, contains_later}
+use Rattle.number_laws.proofs.ListSums.{contains_cases, contains_here, contains_later}
 use Rattle.price_defs.proofs.laws.Duality.{border_cost_once}
 use Rattle.cert_check.specs.BorderCosts.{HasBorderCost, IsStepBelow, AreSteps}
-use Rattle.cert_check.proofs.Turning.{same_step, left_of_right, no_step_back}
-
-ends_of : (e : Pair) (v w : ℕ) → e.lo ≡ min v w → e.hi ≡ max v w → HasEnds e v w
-ends_of e v w lo hi = elim (cases_lt v w) [ inl h ↦ inl (omega arith, omega arith) | inr h ↦ inr (omega arith, omega arith) ]
+use Rattle.cert_check.proofs.Turning.{no_step_back}
 
 joins_later : (e : Pair) (list : List Pair) (i j : ℕ) → Joins list i j → Joins (e ∷ list) i j
 joins_later e list i j h = (let (f, has, ends) = joined list i j h in joins_of (e ∷ list) f i j (has_of (e ∷ list) f (contains_later e list f (contains_of list f has))) ends)
@@ -54,7 +50,7 @@ below_more S k e h = record { v = h.v; w = h.w; below = (let l : h.v < k = h.bel
 pub steps_more : (S : List Point) (D : List Costed) (v w h c : ℕ) (e : Pair) → AreAccepted S → v < length S → IsBorderStep S Left v w → e.lo ≡ min v w → e.hi ≡ max v w → c ≡ cost D e.lo e.hi → c ≤ 1000
     → AreSteps S D v h → AreSteps S D (v + 1) (h + c)
 steps_more S D v w h c e ok vn step lo hi is small steps =
-    let ends : HasEnds e v w = ends_of e v w lo hi in
+    let ends : HasEnds e v w = ends_of_new e v w lo hi in
     record {
       list = e ∷ steps.list;
       distinct = AllPairs-cons (λ x y. x ≢ y) e steps.list (λ k d l. fresh S v w e _ ok vn ends step (steps.steps _ (Contains-get_or steps.list k d l))) steps.distinct;
@@ -71,7 +67,7 @@ steps_more S D v w h c e ok vn step lo hi is small steps =
         | inr g ↦
             let q : v ≡ x = omega arith in
             let t : IsBorderStep S Left v y = subst (λ n. IsBorderStep S Left n y) (sym q) s in
-            let r : w ≡ y = same_step S v w y ok vn step t in
+            let r : w ≡ y = left_step_once S v w y ok vn step t in
             joins_of (e ∷ steps.list) e x y (has_of (e ∷ steps.list) e (contains_here e steps.list)) (subst (λ n. HasEnds e x n) r (subst (λ n. HasEnds e n w) q ends))
       ];
       cost = omega (arith, steps.cost, is, sum_by-cons (λ (x : Pair). cost D x.lo x.hi) e steps.list);
@@ -113,10 +109,10 @@ steps_all S D h steps = (steps.list, record { within = steps.within; distinct = 
         elim ends [
           | inl a ↦ elim s.ends [
             | inl b ↦ subst (λ n. IsBorderPair S i n) (sym b.1 ∙ a.1) (subst (λ n. IsBorderPair S n s.w) (sym b.0 ∙ a.0) p)
-            | inr b ↦ border_turned S j i (subst (λ n. IsBorderPair S j n) (sym b.0 ∙ a.0) (subst (λ n. IsBorderPair S n s.w) (sym b.1 ∙ a.1) p))
+            | inr b ↦ border_back S j i (subst (λ n. IsBorderPair S j n) (sym b.0 ∙ a.0) (subst (λ n. IsBorderPair S n s.w) (sym b.1 ∙ a.1) p))
           ]
           | inr a ↦ elim s.ends [
-            | inl b ↦ border_turned S j i (subst (λ n. IsBorderPair S j n) (sym b.1 ∙ a.1) (subst (λ n. IsBorderPair S n s.w) (sym b.0 ∙ a.0) p))
+            | inl b ↦ border_back S j i (subst (λ n. IsBorderPair S j n) (sym b.1 ∙ a.1) (subst (λ n. IsBorderPair S n s.w) (sym b.0 ∙ a.0) p))
             | inr b ↦ subst (λ n. IsBorderPair S i n) (sym b.0 ∙ a.0) (subst (λ n. IsBorderPair S n s.w) (sym b.1 ∙ a.1) p)
           ]
         ])

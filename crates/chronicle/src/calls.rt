@@ -1,5 +1,6 @@
 // The calls on a history and its shares.
-ghost use Rattle.std.specs.Prelude.{◌≡◌, ◌≢◌, ℕ, ◌+◌, ◌-◌, ◌^◌, ◌<◌, ◌≤◌, List, [], ◌∷◌, ◌++◌, length, map, Some, IfOk, IsTrue, vec_capacity};
+ghost use Rattle.std.specs.Prelude.{◌≡◌, ◌≢◌, ℕ, ◌+◌, ◌-◌, ◌^◌, ◌<◌, ◌≤◌, List, [], ◌∷◌, ◌++◌, length, map, Some, IfOk};
+ghost use Rattle.std.specs.Prelude.{IsTrue, vec_capacity};
 ghost use Rattle.index_sets.specs.Indices.{contains, all_but, numbers_from};
 ghost use Rattle.index_sets.specs.Prefixes.{longer};
 ghost use Rattle.chronicle.specs.History.{whole_share, caller_share, GoesOn, IsShare};

@@ -12,15 +12,11 @@ use Rattle.plane.specs.Hull.{IsOnSide, IsBorderStep}
 use Rattle.plane.proofs.laws.Area.{area_swap, area_first, area_second}
 use Rattle.plane.proofs.laws.Along.{one_between}
 use Rattle.cp_judge.specs.Chains.{sided, IsOrder, stop, IsChain}
-use Rattle.cp_judge.proofs.Forth.{Precedes, not_both_ways, turn_later, turn_earlier, none_amid, between_order}
-
-zero_on : (side : Turn) (z : ℤ) → z ≡ pos 0 → pos 0 ≤ℤ sided side z
-zero_on Left z e = omega (arith, ints)
-zero_on Straight z e = omega (arith, ints)
-zero_on Right z e = omega (arith, ints)
-
-weaker : (z : ℤ) → pos 0 <ℤ z → pos 0 ≤ℤ z
-weaker z h = omega (arith, ints)
+use Rattle.cp_judge.proofs.Forth.{turn_later, turn_earlier, none_amid, between_order}
+use Rattle.plane_laws.specs.Order.{IsBefore}
+use Rattle.plane_laws.proofs.Order.{before_asym}
+use Rattle.number_laws.proofs.Signs.{weak_of_positive}
+use Rattle.cp_judge.proofs.Sided.{straight_sided}
 
 on_side : (side : Turn) (z : ℤ) → side ≢ Straight → pos 0 ≤ℤ sided side z → IsOnSide side z
 on_side Left z bent h = h
@@ -52,11 +48,11 @@ same_stop S O C i s e = ap (λ k. at_place S O k) e
 
 at_end : (S : List Point) (O C : List ℕ) (side : Turn) (i s : ℕ) → s ≡ slice_index C (i + 1) → pos 0 ≤ℤ sided side (orientation S (stop O C i) (stop O C (i + 1)) (slice_index O s))
 at_end S O C side i s e =
-    zero_on side _ (ap (λ x. area (at_place S O (slice_index C i)) (at_place S O (slice_index C (i + 1))) x) (same_stop S O C (i + 1) s e) ∙ area_second (at_place S O (slice_index C i)) (at_place S O (slice_index C (i + 1))))
+    straight_sided side _ (ap (λ x. area (at_place S O (slice_index C i)) (at_place S O (slice_index C (i + 1))) x) (same_stop S O C (i + 1) s e) ∙ area_second (at_place S O (slice_index C i)) (at_place S O (slice_index C (i + 1))))
 
 at_start : (S : List Point) (O C : List ℕ) (side : Turn) (i s : ℕ) → s ≡ slice_index C i → pos 0 ≤ℤ sided side (orientation S (stop O C i) (stop O C (i + 1)) (slice_index O s))
 at_start S O C side i s e =
-    zero_on side _ (ap (λ x. area (at_place S O (slice_index C i)) (at_place S O (slice_index C (i + 1))) x) (same_stop S O C i s e) ∙ area_first (at_place S O (slice_index C i)) (at_place S O (slice_index C (i + 1))))
+    straight_sided side _ (ap (λ x. area (at_place S O (slice_index C i)) (at_place S O (slice_index C (i + 1))) x) (same_stop S O C i s e) ∙ area_first (at_place S O (slice_index C i)) (at_place S O (slice_index C (i + 1))))
 
 -- each number of the chain is a position
 inside_order : (S : List Point) (O C : List ℕ) (side : Turn) → IsChain S O C side → (d i : ℕ) → i + 1 + d ≡ length C → slice_index C i < length O
@@ -80,7 +76,7 @@ later S O C side order chain (suc d) i s e from hs = elim (cases_lt (slice_index
       let h2 = stop_in S O C side chain (i + 1 + 1) i2 in
       let seen : pos 0 ≤ℤ sided side (orientation S (stop O C (i + 1)) (stop O C (i + 1 + 1)) (slice_index O s)) =
       elim (cases_lt s (slice_index C (i + 1 + 1))) [
-        | inl near ↦ weaker _ (chain.inside (i + 1) i2 s past near)
+        | inl near ↦ weak_of_positive _ (chain.inside (i + 1) i2 s past near)
         | inr far ↦ later S O C side order chain d (i + 1) s (omega arith) far hs
       ] in
       turn_later side (at_place S O (slice_index C i)) (at_place S O (slice_index C (i + 1))) (at_place S O (slice_index C (i + 1 + 1))) (at_place S O s)
@@ -106,7 +102,7 @@ earlier S O C side order chain (suc j) s hi to =
           let h2 = stop_in S O C side chain (j + 1 + 1) i2 in
           let seen : pos 0 ≤ℤ sided side (orientation S (stop O C j) (stop O C (j + 1)) (slice_index O s)) =
           elim (cases_lt (slice_index C j) s) [
-            | inl near ↦ weaker _ (chain.inside j i1 s near before)
+            | inl near ↦ weak_of_positive _ (chain.inside j i1 s near before)
             | inr far ↦ earlier S O C side order chain j s i1 far
           ] in
           turn_earlier side (at_place S O (slice_index C j)) (at_place S O (slice_index C (j + 1))) (at_place S O (slice_index C (j + 1 + 1))) (at_place S O s)
@@ -119,17 +115,17 @@ none_beyond : (S : List Point) (O C : List ℕ) (side : Turn) → IsOrder S O �
     → pos 0 ≤ℤ sided side (orientation S (stop O C i) (stop O C (i + 1)) (slice_index O s))
 none_beyond S O C side order chain i s hi hs = elim (cases_lt (slice_index C i) s) [
   | inl past ↦ elim (cases_lt s (slice_index C (i + 1))) [
-    | inl near ↦ weaker _ (chain.inside i hi s past near)
+    | inl near ↦ weak_of_positive _ (chain.inside i hi s past near)
     | inr far ↦ later S O C side order chain (length C - (i + 1 + 1)) i s (omega arith) far hs
   ]
   | inr to ↦ earlier S O C side order chain i s hi to
 ]
 
 -- of positions, the one whose point comes first is the lesser
-position_before : (S : List Point) (O : List ℕ) → IsOrder S O → (j k : ℕ) → j < length O → k < length O → Precedes (at_place S O j) (at_place S O k) → j < k
+position_before : (S : List Point) (O : List ℕ) → IsOrder S O → (j k : ℕ) → j < length O → k < length O → IsBefore (at_place S O j) (at_place S O k) → j < k
 position_before S O order j k hj hk h =
-    ⊎_elim (λ e. absurd (let P : ℕ → Type 0 = λ i. Precedes (at_place S O j) (at_place S O i) in let own = subst P (sym e) h in not_both_ways _ _ own own))
-    (λ u. ⊎_elim (λ l. l) (λ l. absurd (not_both_ways _ _ h (order.rising k j l hj))) u) (cases_order j k)
+    ⊎_elim (λ e. absurd (let P : ℕ → Type 0 = λ i. IsBefore (at_place S O j) (at_place S O i) in let own = subst P (sym e) h in before_asym _ _ own own))
+    (λ u. ⊎_elim (λ l. l) (λ l. absurd (before_asym _ _ h (order.rising k j l hj))) u) (cases_order j k)
 
 -- a pair of the chain is a step on the border
 pub chain_step : (S : List Point) (O C : List ℕ) (side : Turn) → side ≢ Straight → IsOrder S O → IsChain S O C side → (i : ℕ) → i + 1 < length C
@@ -140,7 +136,7 @@ chain_step S O C side bent order chain i hi =
     let r = order.rising _ _ (chain.rising i hi) hw in
     record {
       within = order.within _ hw;
-      apart = λ e. (let P : ℕ → Type 0 = λ x. Precedes (point S (stop O C i)) (point S x) in let own = subst P e r in not_both_ways _ _ own own);
+      apart = λ e. (let P : ℕ → Type 0 = λ x. IsBefore (point S (stop O C i)) (point S x) in let own = subst P e r in before_asym _ _ own own);
       clear = λ k hk on. (
           let (j, hj, ej) = order.whole k hk in
           let B : ℕ → Type 0 = λ x. IsBetween S x (stop O C i) (stop O C (i + 1)) in
@@ -169,11 +165,11 @@ located S O C side chain (suc n) k hn h =
 
 -- each step forward on the border, on this side, is a pair of the chain
 pub step_on_chain : (S : List Point) (O C : List ℕ) (side : Turn) (v w : ℕ) → side ≢ Straight → AreApart S → IsOrder S O → IsChain S O C side → v < length S
-    → Precedes (point S v) (point S w) → IsBorderStep S side v w → (i : ℕ) × (i + 1 < length C) × (stop O C i ≡ v) × (stop O C (i + 1) ≡ w)
+    → IsBefore (point S v) (point S w) → IsBorderStep S side v w → (i : ℕ) × (i + 1 < length C) × (stop O C i ≡ v) × (stop O C (i + 1) ≡ w)
 step_on_chain S O C side v w bent apart order chain hv forward step =
     let (k, hk, ek) = order.whole v hv in
     let (m, hm, em) = order.whole w step.within in
-    let F : ℕ → ℕ → Type 0 = λ x y. Precedes (point S x) (point S y) in
+    let F : ℕ → ℕ → Type 0 = λ x y. IsBefore (point S x) (point S y) in
     let moved : F (slice_index O k) (slice_index O m) = subst (λ x. F x (slice_index O m)) (sym ek) (subst (λ y. F v y) (sym em) forward) in
     let km = position_before S O order k m hk hm moved in
     let T : ℕ → ℕ → Type 0 = λ x y. IsBorderStep S side x y in
@@ -212,10 +208,10 @@ step_on_chain S O C side v w bent apart order chain hv forward step =
             ⊎_elim (λ e. e)
             (λ u. absurd (⊎_elim
             (λ bm. elim (one_between v q w (differ S O order k b hk hb high) (differ S O order k m hk hm km) (differ S O order b m hb hm bm) flat) [
-              | inl h ↦ not_both_ways q v (between_order v q w h (order.rising b m bm hm)).0 vb
+              | inl h ↦ before_asym q v (between_order v q w h (order.rising b m bm hm)).0 vb
               | inr rest ↦ elim rest [
                 | inl h ↦ step.clear _ (order.within _ hb) h
-                | inr h ↦ not_both_ways w q (between_order w v q h vb).1 (order.rising b m bm hm)
+                | inr h ↦ before_asym w q (between_order w v q h vb).1 (order.rising b m bm hm)
               ]
             ])
             (λ mb. let I : ℕ → Type 0 = λ x. pos 0 <ℤ sided side (orientation S (slice_index O x) (stop O C (i + 1)) (slice_index O m)) in
@@ -225,5 +221,5 @@ step_on_chain S O C side v w bent apart order chain hv forward step =
             differ : (S : List Point) (O : List ℕ) → IsOrder S O → (j k : ℕ) → j < length O → k < length O → j < k → at_place S O j ≢ at_place S O k
             differ S O order j k hj hk l e =
                 let r = order.rising j k l hk in
-                let P : Point → Type 0 = λ p. Precedes (at_place S O j) p in
-                let own = subst P (sym e) r in not_both_ways _ _ own own
+                let P : Point → Type 0 = λ p. IsBefore (at_place S O j) p in
+                let own = subst P (sym e) r in before_asym _ _ own own

@@ -11,7 +11,7 @@ use Rattle.cp_judge.specs.Ends.{IsOtherEnd}
 use Rattle.cp_judge.specs.Searching.{IsInNeedOfAnother, IsMetBy, IsMetBefore, mark, AddsMarks}
 use Rattle.cp_judge.specs.Violation.{IsPairAt, IsUnmetAt, IsUnmet}
 use Rattle.cp_judge.proofs.Items.{stands_same}
-use Rattle.number_laws.proofs.Truth.{false_of_not}
+use Rattle.std.proofs.lemmas.Bool.{false_from_ne_true}
 
 pub end_in : (e : Pair) (p r n : ℕ) → HasEnds e p r → e.hi < n → r < n
 end_in e p r n h l = let o : e.lo < e.hi = e.ordered in ⊎_elim (λ u. let v = u.1 in omega arith) (λ u. let v = u.0 in omega arith) h
@@ -85,7 +85,7 @@ unmet_from S K p M N (Some r) within none h least =
       holds = (least.holds.0, λ met. false≢true (sym least.holds.1 ∙ (h r least.within).1 (inr (met_before S K p r least.holds.0 met))));
       before = λ j m u.
           let w = least.within in let l : j < length S = omega arith in
-          least.before j m (u.0, false_of_not (mark N j) (λ t. u.1 (marked_met S K p j M N within (none j l) (h j l) t)));
+          least.before j m (u.0, false_from_ne_true (mark N j) (λ t. u.1 (marked_met S K p j M N within (none j l) (h j l) t)));
     }
 
 pub unmet_inner : (S : List Point) (K : List Pair) (p : ℕ) (o : Option ℕ) → IsInner S p

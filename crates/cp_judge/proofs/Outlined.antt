@@ -20,7 +20,8 @@ use Rattle.number_laws.proofs.Signs.{by_sign}
 use Rattle.partition_defs.specs.Partition.{Joins, HasBorder}
 use Rattle.partition_defs.specs.Sweep.{IsSweptBefore}
 use Rattle.cp_judge.specs.Chains.{sided, HasIndices, IsRising, IsOrder, stop, IsChain, HasPairs, AreOnBorder, MarksStops, HasSide}
-use Rattle.cp_judge.proofs.Forth.{Precedes, precedes_on}
+use Rattle.plane_laws.specs.Order.{IsBefore}
+use Rattle.plane_laws.proofs.Order.{before_trans}
 use Rattle.cp_judge.proofs.Chained.{chain_step, step_on_chain}
 use Rattle.plane.proofs.laws.Border.{border_back}
 use Rattle.partition_defs.proofs.laws.Joined.{join_back}
@@ -48,7 +49,7 @@ rising_more S O k some next before i j ij jk = elim (cases_lt j k) [
       (let same : j ≡ k = omega arith in
       let R : ℕ → Type 0 = λ x. IsSweptBefore S (slice_index O i) (slice_index O x) in
       subst R (sym same) (elim (cases_lt i (k - 1)) [
-        | inl m ↦ precedes_on _ (point S (slice_index O (k - 1))) _ (before i (k - 1) m (omega arith)) next
+        | inl m ↦ before_trans _ (point S (slice_index O (k - 1))) _ (before i (k - 1) m (omega arith)) next
         | inr m ↦ (let e : i ≡ k - 1 = omega arith in let Q : ℕ → Type 0 = λ x. IsSweptBefore S (slice_index O x) (slice_index O k) in subst Q (sym e) next)
       ]))
 ]
@@ -63,11 +64,6 @@ pub weakly_sided : (side : Turn) (z : ℤ) → IsTurn side z → pos 0 ≤ℤ si
 weakly_sided Left z h = omega (arith, ints)
 weakly_sided Straight z h = omega (arith, ints)
 weakly_sided Right z h = omega (arith, ints)
-
-pub straight_sided : (side : Turn) (z : ℤ) → z ≡ pos 0 → pos 0 ≤ℤ sided side z
-straight_sided Left z h = omega (arith, ints)
-straight_sided Straight z h = omega (arith, ints)
-straight_sided Right z h = omega (arith, ints)
 
 -- the steps of a chain whose pairs are in K
 pub side_of_pairs : (S : List Point) (O C : List ℕ) (K : List Pair) (side : Turn) → side ≢ Straight → AreApart S → IsOrder S O → IsChain S O C side → HasPairs O C K → HasSide S K side
@@ -109,7 +105,7 @@ marks_on_border S O C side M N bent order chain marks old v hv t inner = elim (m
   | inr (i, hi, e) ↦ stop_not_inner S O C side bent order chain i hi (subst (IsInner S) (sym e) inner)
 ]
 
-precedes_or : (p q : Point) → p ≢ q → Precedes p q ⊎ Precedes q p
+precedes_or : (p q : Point) → p ≢ q → IsBefore p q ⊎ IsBefore q p
 precedes_or p q apart =
     by_sign (q.x -ℤ p.x) (λ h. inl (inl (omega (arith, ints))))
     (λ z. by_sign (q.y -ℤ p.y) (λ h. inl (inr (omega (arith, ints), omega (arith, ints)))) (λ y. absurd (apart (same_point p q (omega (arith, ints)) (omega (arith, ints))))) (λ h. inr (inr (omega (arith, ints), omega (arith, ints)))))

@@ -1,24 +1,19 @@
 -- The search for opposite points: marks of buckets, the points that share one, the first two.
-use Rattle.std.proofs.Common.{◌≡◌, ◌≢◌, ℕ, ◌+◌, ◌%◌, ◌<◌, ◌≤◌, ◌⊎◌, inl, inr, List, [], ◌∷◌, ◌++◌, length, get_or, set, Bool, true, false, Option, Some, None, sym, ◌∙◌, ap, subst, refl, arith}
-use Rattle.std.specs.Prelude.{nat_eq, slice_index}
+use Rattle.std.proofs.Common.{◌≡◌, ◌≢◌, ℕ, ◌+◌, ◌%◌, ◌<◌, ◌≤◌, inl, inr, List, [], ◌∷◌, ◌++◌, length, get_or, set, true, false, Some, None, sym, ◌∙◌, ap, subst, refl, arith}
+use Rattle.std.specs.Prelude.{nat_eq}
 use Rattle.std.specs.List.{AllPairs, Contains}
-use Rattle.std.proofs.lemmas.Bool.{cases_lt, eqb-true}
+use Rattle.std.proofs.lemmas.Bool.{cases_lt, cases_eq, eqb-true}
 use Rattle.std.proofs.lemmas.List.{length-set, get_or-set_same, get_or-set_other, get_or_default}
 use Rattle.std.proofs.lemmas.List.Elements.{Contains-push, Contains-push_cases, Contains-append_left, Contains-get_or}
 use Rattle.std.proofs.lemmas.List.Quantifiers.{all_pairs_push}
 use Rattle.plane.specs.declared.coordinates.Point.{Point}
 use Rattle.plane.specs.Accepted.{AreAccepted}
-use Rattle.plane.specs.First.{ComesBefore, IsFirstPair}
-use Rattle.plane.specs.Geometry.{point, area, scalar, IsBetween}
-use Rattle.std.specs.Prelude.{pos, ◌<ℤ◌, ◌-ℤ◌}
-use Rattle.number_laws.proofs.Signs.{zero_left, zero_right}
-use Rattle.std.proofs.lemmas.Int.{ints}
+use Rattle.plane.specs.First.{IsFirstPair}
+use Rattle.plane.specs.Geometry.{IsBetween}
 use Rattle.directions.specs.Key.{line_key}
 use Rattle.directions.specs.Opposites.{number, AreClear, mark_after, IsBumped, bucket, AreKeys, AreMarked, IsGathered, HasShared, IsFirstOpposite}
 use Rattle.directions.proofs.Lines.{opposite_keys}
-
-same_or_other : (m n : ℕ) → (m ≡ n) ⊎ (m ≢ n)
-same_or_other m n = elim (cases_lt m n) [ inl h ↦ inr (λ e. absurd (omega arith)) | inr h ↦ elim (cases_lt n m) [ inl k ↦ inr (λ e. absurd (omega arith)) | inr k ↦ inl (omega arith) ] ]
+use Rattle.plane_laws.proofs.Nearest.{not_first_end, not_second_end}
 
 bucket_within : (S : List Point) (p q : ℕ) → bucket S p q < 131071
 bucket_within S p q = omega arith
@@ -40,7 +35,7 @@ bumped_other : (old new : List ℕ) (b d : ℕ) → d ≢ b → IsBumped old b n
 bumped_other old new b d ne is = ap (λ (x : List ℕ). number x d) is ∙ get_or-set_other old b d (mark_after (nat_eq (number old b) 0)) 0 ne
 
 rises : (old new : List ℕ) (b d : ℕ) → b < length old → ((x : ℕ) → number old x ≤ 2) → IsBumped old b new → number old d ≤ number new d
-rises old new b d l most is = elim (same_or_other d b) [
+rises old new b d l most is = elim (cases_eq d b) [
   | inl e ↦ elim (cases_lt 0 (number old b)) [
     | inl h ↦ omega (arith, ap (number old) e, ap (number new) e, bumped_at old new b l is, bump_more (number old b) (omega arith), most b)
     | inr h ↦ omega (arith, ap (number old) e, ap (number new) e)
@@ -52,7 +47,7 @@ rises old new b d l most is = elim (same_or_other d b) [
 keys_more : (S : List Point) (p k : ℕ) (old new : List ℕ) → k < length S → new ≡ set old k (line_key S p k) → AreKeys S p k old → AreKeys S p (k + 1) new
 keys_more S p k old new l is keys = record {
   count = ap length is ∙ length-set old k (line_key S p k) ∙ keys.count;
-  each = λ q qk qp. elim (same_or_other q k) [
+  each = λ q qk qp. elim (cases_eq q k) [
     | inl e ↦ ap (λ (x : List ℕ). number x q) is ∙ ap (number (set old k (line_key S p k))) e ∙ get_or-set_same old k (line_key S p k) 0 (omega (arith, keys.count)) ∙ ap (line_key S p) (sym e)
     | inr ne ↦ ap (λ (x : List ℕ). number x q) is ∙ get_or-set_other old k q (line_key S p k) 0 ne ∙ keys.each q (lesser q k qk ne) qp
   ];
@@ -87,7 +82,7 @@ marked_more S p k keys newkeys marks newmarks l kp kis mis m =
             let o : 1 ≤ number marks (bucket S p q) = m.one q (omega arith) qp in
             omega (arith, ap (number newmarks) b, bumped_at marks newmarks (bucket S p k) bl mis, bump_more (number marks (bucket S p k)) (omega (arith, ap (number marks) b)))
       ];
-      most = λ d. elim (same_or_other d (bucket S p k)) [
+      most = λ d. elim (cases_eq d (bucket S p k)) [
         | inl e ↦ omega (arith, ap (number newmarks) e, bumped_at marks newmarks (bucket S p k) bl mis, (bump_value (number marks (bucket S p k))).1)
         | inr ne ↦ omega (arith, bumped_other marks newmarks (bucket S p k) d ne mis, m.most d)
       ];
@@ -157,20 +152,6 @@ shared_of S p keys marks shared m g = record {
 }
 
 -- two points that p is strictly between
-scalar_nothing : (p b : Point) → scalar p p b ≡ pos 0
-unfolding scalar
-scalar_nothing p b = omega (arith, ints, zero_left (p.x -ℤ p.x) (b.x -ℤ p.x) (omega (arith, ints)), zero_left (p.y -ℤ p.y) (b.y -ℤ p.y) (omega (arith, ints)))
-
-scalar_nothing_back : (p b : Point) → scalar p b p ≡ pos 0
-unfolding scalar
-scalar_nothing_back p b = omega (arith, ints, zero_right (b.x -ℤ p.x) (p.x -ℤ p.x) (omega (arith, ints)), zero_right (b.y -ℤ p.y) (p.y -ℤ p.y) (omega (arith, ints)))
-
-not_own : (S : List Point) (p b : ℕ) → ¬ IsBetween S p p b
-not_own S p b h = omega (arith, ints, h.1, scalar_nothing (point S p) (point S b))
-
-not_own_back : (S : List Point) (p b : ℕ) → ¬ IsBetween S p b p
-not_own_back S p b h = omega (arith, ints, h.1, scalar_nothing_back (point S p) (point S b))
-
 pub record AreFound (S : List Point) (p : ℕ) (shared : List ℕ) (k l : ℕ) : Type 0 where
   pub first : Contains shared k
   pub second : Contains shared l
@@ -179,8 +160,8 @@ pub record AreFound (S : List Point) (p : ℕ) (shared : List ℕ) (k l : ℕ) :
 
 pub found : (S : List Point) (p k l : ℕ) (shared : List ℕ) → AreAccepted S → p < length S → HasShared S p shared → k < l → l < length S → IsBetween S p k l → AreFound S p shared k l
 found S p k l shared ok pn has kl ln between =
-    let kp : k ≢ p = λ e. not_own S p l (subst (λ n. IsBetween S p n l) e between) in
-    let lp : l ≢ p = λ e. not_own_back S p k (subst (λ n. IsBetween S p k n) e between) in
+    let kp : k ≢ p = λ e. not_first_end S p l (subst (λ n. IsBetween S p n l) e between) in
+    let lp : l ≢ p = λ e. not_second_end S p k (subst (λ n. IsBetween S p k n) e between) in
     let b = has.both k l kl ln kp lp (opposite_keys S p k l ok pn (omega arith) ln kp lp between) in
     record { first = b.0; second = b.1; apart = kp; also = lp }
 

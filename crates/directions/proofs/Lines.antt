@@ -1,5 +1,5 @@
 -- Points on a line through p have one key.
-use Rattle.std.proofs.Common.{◌≡◌, ◌≢◌, ℕ, ◌+◌, ◌*◌, ◌/◌, ◌<◌, ◌≤◌, inl, inr, ℤ, pos, List, length, sym, ◌∙◌, ap, arith}
+use Rattle.std.proofs.Common.{◌≡◌, ◌≢◌, ℕ, ◌+◌, ◌*◌, ◌/◌, ◌<◌, ◌≤◌, inl, inr, pos, List, length, sym, ◌∙◌, ap, arith}
 use Rattle.std.specs.Prelude.{unsigned_abs, ◌-ℤ◌, ◌*ℤ◌}
 use Rattle.std.proofs.Math.Nat.{div-mul-le_self, div-le_of_le-mul, mul-le-mul_right, le_of_mul-le-mul_right}
 use Rattle.std.proofs.lemmas.Bool.{cases_lt}
@@ -7,8 +7,8 @@ use Rattle.std.proofs.lemmas.Int.{ints, unsigned_abs-mul}
 use Rattle.std.proofs.lemmas.Nat.{le-div}
 use Rattle.plane.specs.declared.coordinates.Point.{Point}
 use Rattle.plane.specs.Accepted.{AreAccepted}
-use Rattle.plane.specs.Geometry.{point, area, LiesBetween, IsBetween}
-use Rattle.plane.proofs.laws.Area.{area_cycle, area_back}
+use Rattle.plane.specs.Geometry.{point, area, IsBetween}
+use Rattle.plane.proofs.laws.Area.{area_back}
 use Rattle.plane.proofs.laws.Border.{points_differ}
 use Rattle.plane.proofs.laws.Line.{same_point}
 use Rattle.directions.specs.Key.{share, across, upward, line_key}

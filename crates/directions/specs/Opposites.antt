@@ -1,6 +1,6 @@
 -- For private clauses.
 -- Points whose lines through a centre have keys in one bucket.
-use Rattle.std.specs.Prelude.{◌≡◌, ◌≢◌, ℕ, ◌<◌, ◌≤◌, ◌%◌, ◌+◌, List, length, set, slice_index, nat_eq, Bool, true, false, Option, Some, None}
+use Rattle.std.specs.Prelude.{◌≡◌, ◌≢◌, ℕ, ◌<◌, ◌≤◌, ◌%◌, List, length, set, slice_index, nat_eq, Bool, true, false, Option, Some, None}
 use Rattle.std.specs.List.{AllPairs, Contains}
 use Rattle.plane.specs.declared.coordinates.Point.{Point}
 use Rattle.plane.specs.Geometry.{IsBetween}

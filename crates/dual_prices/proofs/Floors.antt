@@ -1,8 +1,6 @@
 -- The floor certificate, point by point.
-use Rattle.std.proofs.Common.{◌≡◌, ◌≢◌, ℕ, ◌+◌, ◌<◌, ◌≤◌, ◌⊎◌, inl, inr, ℤ, pos, min, max, List, [], ◌∷◌, ◌++◌, length, get_or, Option, Some, None, sym, ◌∙◌, ap, ap₂, refl, subst, arith, append_assoc}
-use Rattle.std.specs.Prelude.{◌-ℤ◌, ◌*ℤ◌, ◌≤ℤ◌, ◌<ℤ◌}
-use Rattle.std.proofs.lemmas.Int.{ints}
-use Rattle.std.specs.List.{All, AllPairs, AllZip, Contains, flat_map, sum_by}
+use Rattle.std.proofs.Common.{◌≡◌, ◌≢◌, ℕ, ◌+◌, ◌<◌, ◌≤◌, inl, inr, List, [], ◌∷◌, ◌++◌, length, get_or, Option, Some, None, sym, ◌∙◌, ap, refl, subst, arith, append_assoc}
+use Rattle.std.specs.List.{All, AllZip, Contains, flat_map, sum_by}
 use Rattle.std.proofs.lemmas.List.Sums.{sum_by-append}
 use Rattle.std.proofs.lemmas.Bool.{cases_lt}
 use Rattle.std.proofs.lemmas.Grind.{flat_map-append}
@@ -10,17 +8,17 @@ use Rattle.std.proofs.lemmas.List.{append-nil}
 use Rattle.std.proofs.lemmas.List.Elements.{All-append, All-cons, All-nil, Contains-push, Contains-push_cases, Contains-append_left, Contains-get_or}
 use Rattle.std.proofs.lemmas.List.Quantifiers.{all_pairs_push}
 use Rattle.plane.specs.declared.coordinates.Point.{Point}
-use Rattle.plane.specs.declared.segment.Pair.{Pair}
 use Rattle.plane.specs.Accepted.{AreAccepted}
 use Rattle.plane.specs.First.{IsFirstPair}
 use Rattle.plane.specs.Geometry.{IsBetween, IsClear, IsInner}
 use Rattle.cost_defs.specs.Costs.{Costed, cost}
 use Rattle.price_defs.specs.declared.row.Row.{Row}
 use Rattle.price_defs.specs.declared.row.Row.TheVariants.{Half, Three}
-use Rattle.price_defs.specs.Rows.{IsAlone, weight}
+use Rattle.price_defs.specs.Rows.{weight}
 use Rattle.price_defs.specs.Loads.{lost}
 use Rattle.price_defs.specs.Floor.{IsLeastCost, AreFloorRowsAt, IsFloorCertificate}
-use Rattle.price_defs.proofs.laws.Nearest.{HasNearest, nearest}
+use Rattle.number_laws.proofs.Naturals.{another}
+use Rattle.plane_laws.proofs.Nearest.{HasNearest, nearest}
 use Rattle.price_defs.proofs.laws.Alone.{alone_of_none}
 use Rattle.dual_prices.specs.Rooms.{AreCheap}
 use Rattle.dual_prices.proofs.Rooms.{cheap_cost}
@@ -142,13 +140,10 @@ cost_passed S D p r (Some b) miss least = (
 pub cost_least : (S : List Point) (D : List Costed) (p m : ℕ) → IsLeastCostBelow S D p (length S) (Some m) → IsLeastCost S D p m
 cost_least S D p m ((r, rn, ne, clear, is), least) = record { r = r; within = rn; apart = ne; clear = clear; is = is; least = least }
 
-another : (n p : ℕ) → 3 ≤ n → (q : ℕ) × (q < n) × (q ≢ p)
-another n p h = elim (cases_lt 0 p) [ inl l ↦ (0, omega arith, λ e. absurd (omega arith)) | inr g ↦ (1, omega arith, λ e. absurd (omega arith)) ]
-
 -- each point has a clear pair
 pub some_clear : (S : List Point) (D : List Costed) (p : ℕ) → AreAccepted S → p < length S → IsLeastCostBelow S D p (length S) None → ⊥
 some_clear S D p ok pn none =
-    let q : (q : ℕ) × (q < length S) × (q ≢ p) = another (length S) p ok.count.0 in
+    let q : (q : ℕ) × (q < length S) × (q ≢ p) = another (length S) p (omega (arith, ok.count.0)) in
     let h : HasNearest S p q.0 = nearest S p q.0 ok pn q.1 q.2 in
     none h.b h.within h.apart h.clear
 

@@ -20,16 +20,17 @@ use Rattle.price_defs.specs.Tight.{IsAtPoint}
 use Rattle.price_defs.specs.Laws.{CountsSome}
 use Rattle.price_defs.specs.Raising.{reweigh, IsRoom, IsRaisedRow, AreRaisedFrom, AreRaised}
 use Rattle.price_defs.proofs.laws.Tests.{counts_decides}
-use Rattle.price_defs.proofs.laws.Sides.{clear_turned}
-use Rattle.price_defs.proofs.laws.Nearest.{counts_some, counts_turned}
+use Rattle.plane.proofs.laws.Border.{clear_back}
+use Rattle.price_defs.proofs.laws.Counting.{counts_some, counts_turned}
 use Rattle.raise_laws.proofs.laws.Limits.{lessened_lost, IsWithin, weight_within}
 use Rattle.raise_laws.proofs.laws.Raises.{step_of, step_valid}
 use Rattle.raise_laws.proofs.laws.Floored.{cost_turned}
 use Rattle.price_defs.specs.Limits.{AreLight}
 use Rattle.dual_prices.specs.Rooms.{AreCheap}
 use Rattle.dual_prices.specs.Rooms.{IsRowAt, IsCandidate, IsLeastRoom, IsRaisedAt, IsRaising}
-use Rattle.dual_prices.proofs.Rooms.{load_turned, allowed_small, some_is, not_some}
+use Rattle.dual_prices.proofs.Rooms.{load_turned, allowed_small, not_some}
 use Rattle.std.proofs.Math.Seq.{take-length, drop-length}
+use Rattle.std.proofs.lemmas.Option.{same_Some}
 
 -- a counted pair has the end p
 end_of : (S : List Point) (p : ℕ) (row : Row) (i j : ℕ) → IsRowAt p row → Counts S row i j → (i ≡ p) ⊎ (j ≡ p)
@@ -52,7 +53,7 @@ candidate_of : (S : List Point) (p : ℕ) (row : Row) (i j : ℕ) → i < j → 
 candidate_of S p row i j l n clear counted (inl e) =
     inl (n, e, ((λ g. absurd (omega arith)), subst (λ x. IsClear S x j) e clear, subst (λ x. Counts S row x j) e counted))
 candidate_of S p row i j l n clear counted (inr e) =
-    inr (omega arith, e, ((λ g. absurd (omega arith)), subst (λ x. IsClear S x i) e (clear_turned S i j clear), subst (λ x. Counts S row x i) e (counts_turned S row i j counted)))
+    inr (omega arith, e, ((λ g. absurd (omega arith)), subst (λ x. IsClear S x i) e (clear_back S i j clear), subst (λ x. Counts S row x i) e (counts_turned S row i j counted)))
 
 -- a right row at p has a candidate
 pub some_candidate : (S : List Point) (p : ℕ) (row : Row) → AreAccepted S → IsRight S row → IsRowAt p row → (s : ℕ) × (s < length S) × IsCandidate S row p s
@@ -73,7 +74,7 @@ room_of S D q rows row p m pn at_p ((r, rn, (ne, clear, counted), room), least) 
         j = p;
         ordered = omega arith;
         within = pn;
-        clear = clear_turned S p r clear;
+        clear = clear_back S p r clear;
         counted = counts_turned S row p r counted;
         is = omega (arith, ints, room, load_turned S rows r p, ap (λ n. q * n) (cost_turned D r p));
         least = all;
@@ -161,8 +162,8 @@ valid_light S D q rows ok valid takers small cheap k d l =
 
 -- a row that stands at p
 pub at_stand : (row : Row) (p : ℕ) → stand row ≡ Some p → IsRowAt p row
-at_stand (Half u q w) p e = some_is u p e
-at_stand (Three u w) p e = some_is u p e
+at_stand (Half u q w) p e = same_Some u p e
+at_stand (Three u w) p e = same_Some u p e
 at_stand (Cross e f w) p h = absurd (not_some p (sym h))
 at_stand (Cap e w) p h = absurd (not_some p (sym h))
 
@@ -170,8 +171,8 @@ pub point_of_stand : (row : Row) (p : ℕ) → stand row ≡ Some p → IsAtPoin
 point_of_stand row p e = at_point p row (at_stand row p e)
 
 pub stand_in : (S : List Point) (row : Row) (p : ℕ) → IsRight S row → stand row ≡ Some p → p < length S
-stand_in S (Half u q w) p right e = subst (λ n. n < length S) (some_is u p e) right.0
-stand_in S (Three u w) p right e = subst (λ n. n < length S) (some_is u p e) right.0
+stand_in S (Half u q w) p right e = subst (λ n. n < length S) (same_Some u p e) right.0
+stand_in S (Three u w) p right e = subst (λ n. n < length S) (same_Some u p e) right.0
 stand_in S (Cross e f w) p right h = absurd (not_some p (sym h))
 stand_in S (Cap e w) p right h = absurd (not_some p (sym h))
 

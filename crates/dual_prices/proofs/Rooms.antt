@@ -9,8 +9,6 @@ use Rattle.std.proofs.lemmas.List.Elements.{All-head, All-tail}
 use Rattle.std.proofs.Math.Nat.{mul-le-mul_left}
 use Rattle.plane.specs.declared.coordinates.Point.{Point}
 use Rattle.plane.specs.declared.segment.Pair.{Pair}
-use Rattle.plane.specs.Geometry.{IsClear}
-use Rattle.partition_defs.specs.Partition.{HasEnds}
 use Rattle.price_defs.specs.declared.row.Row.{Row}
 use Rattle.price_defs.specs.declared.row.Row.TheVariants.{Half, Three, Cross, Cap}
 use Rattle.cost_defs.specs.Costs.{Costed, has_ends, cost}
@@ -18,21 +16,14 @@ use Rattle.std.specs.Prelude.{IsTrue}
 use Rattle.price_defs.specs.Rows.{IsRight, Counts, Lessens, counts, lessens, weight}
 use Rattle.price_defs.specs.Loads.{given, lessened, gives, takes, load, IsValid}
 use Rattle.price_defs.proofs.laws.Tests.{counts_decides, lessens_decides}
-use Rattle.price_defs.proofs.laws.Sides.{clear_turned}
+use Rattle.plane.proofs.laws.Border.{clear_back}
 use Rattle.price_defs.proofs.laws.Counted.{row_free}
-use Rattle.price_defs.proofs.laws.Nearest.{counts_turned}
+use Rattle.price_defs.proofs.laws.Counting.{counts_turned}
 use Rattle.raise_laws.proofs.laws.Floored.{cost_turned}
 use Rattle.dual_prices.specs.Rooms.{AreCheap}
 use Rattle.dual_prices.specs.Rooms.{IsCandidate, IsRoomWith, IsLeastRoom, IsBelow, IsZero}
-
-pub clear_of_min_max : (S : List Point) (p r lo hi : ℕ) → lo ≡ min p r → hi ≡ max p r → IsClear S lo hi ↔ IsClear S p r
-clear_of_min_max S p r lo hi el eh =
-    elim (cases_lt p r) [
-      | inl h ↦ (let a : lo ≡ p = omega arith in let b : hi ≡ r = omega arith in
-          (λ c. subst (λ x. IsClear S x r) a (subst (λ y. IsClear S lo y) b c), λ c. subst (λ x. IsClear S x hi) (sym a) (subst (λ y. IsClear S p y) (sym b) c)))
-      | inr h ↦ (let a : lo ≡ r = omega arith in let b : hi ≡ p = omega arith in
-          (λ c. clear_turned S r p (subst (λ x. IsClear S x p) a (subst (λ y. IsClear S lo y) b c)), λ c. subst (λ x. IsClear S x hi) (sym a) (subst (λ y. IsClear S r y) (sym b) (clear_turned S p r c))))
-    ]
+use Rattle.partition_defs.proofs.laws.Joined.{ends_back}
+use Rattle.std.proofs.lemmas.Option.{same_Some}
 
 pub cheap_cost : (D : List Costed) (i j : ℕ) → AreCheap D → cost D i j ≤ 1000
 cheap_cost [] i j h = omega arith
@@ -51,16 +42,12 @@ counts_same S row i j =
     same_from_decides (counts S row i j) (counts S row j i) (counts_decides S row i j)
     (λ t. counts_turned S row j i ((counts_decides S row j i).0 t), λ h. (counts_decides S row j i).1 (counts_turned S row i j h))
 
-ends_turned : (e : Pair) (i j : ℕ) → HasEnds e i j → HasEnds e j i
-ends_turned e i j (inl h) = inr h
-ends_turned e i j (inr h) = inl h
-
 lessens_turned : (row : Row) (i j : ℕ) → Lessens row i j → Lessens row j i
 lessens_turned (Half p q w) i j h = h
 lessens_turned (Three p w) i j h = h
-lessens_turned (Cross e f w) i j (inl h) = inl (ends_turned e i j h)
-lessens_turned (Cross e f w) i j (inr h) = inr (ends_turned f i j h)
-lessens_turned (Cap e w) i j h = ends_turned e i j h
+lessens_turned (Cross e f w) i j (inl h) = inl (ends_back e i j h)
+lessens_turned (Cross e f w) i j (inr h) = inr (ends_back f i j h)
+lessens_turned (Cap e w) i j h = ends_back e i j h
 
 lessens_same : (row : Row) (i j : ℕ) → lessens row i j ≡ lessens row j i
 lessens_same row i j =
@@ -88,7 +75,7 @@ candidate_allowed S D q rows row p r valid right pn rn (ne, clear, counted) =
     elim (cases_lt p r) [
       | inl h ↦ valid.loads p r h rn clear (λ b. row_free S row p r right b h rn counted)
       | inr h ↦ (let l : r < p = omega arith in
-          let m : load S rows r p ≤ℤ pos (q * cost D r p) = valid.loads r p l pn (clear_turned S p r clear) (λ b. row_free S row r p right b l pn (counts_turned S row p r counted)) in
+          let m : load S rows r p ≤ℤ pos (q * cost D r p) = valid.loads r p l pn (clear_back S p r clear) (λ b. row_free S row r p right b l pn (counts_turned S row p r counted)) in
           subst (λ n. load S rows p r ≤ℤ pos (q * n)) (cost_turned D r p) (omega (arith, ints, load_turned S rows p r)))
     ]
 
@@ -143,16 +130,9 @@ not_below x (Some m) b h f = (m, refl, elim (cases_lt x m) [ inl l ↦ absurd (f
 pub not_some : (m : ℕ) → Some m ≡ None → ⊥
 not_some m e = cc
 
-pub some_is : (m n : ℕ) → Some m ≡ Some n → m ≡ n
-some_is m n e = let f : Option ℕ → ℕ = λ o. or_zero o in ap f e
-  where
-    or_zero : Option ℕ → ℕ
-    or_zero None = 0
-    or_zero (Some x) = x
-
 pub below : (x : ℕ) (best : Option ℕ) (b : Bool) → IsBelow x best b → b ≡ true → (m : ℕ) → best ≡ Some m → x ≤ m
 below x None b h t m e = absurd (not_some m (sym e))
-below x (Some n) b h t m e = (let l : x < n = h.0 t in omega (arith, some_is n m e))
+below x (Some n) b h t m e = (let l : x < n = h.0 t in omega (arith, same_Some n m e))
 
 -- the ends of a pair, whichever is the lesser
 pub cost_of_pair : (D : List Costed) (e : Pair) (p r : ℕ) → e.lo ≡ min p r → e.hi ≡ max p r → cost D e.lo e.hi ≡ cost D p r

@@ -1,7 +1,6 @@
 -- Tables of loads: places of pairs, one row added, one row's weight changed.
 use Rattle.std.proofs.Common.{◌≡◌, ◌≢◌, ℕ, zero, suc, ◌+◌, ◌-◌, ◌*◌, ◌/◌, ◌<◌, ◌≤◌, inl, inr, List, [], ◌∷◌, ◌++◌, length, get_or, take, set, min, max, Bool, true, false, cond, ℤ, pos, neg_ℤ, sym, ◌∙◌, ap, ap₂, refl, subst, arith}
-use Rattle.std.specs.Prelude.{◌+ℤ◌, ◌-ℤ◌, ◌≤ℤ◌, ◌<ℤ◌, ◌&&◌, ◌||◌, nat_eq}
-use Rattle.std.specs.List.{sum_by}
+use Rattle.std.specs.Prelude.{◌+ℤ◌, ◌-ℤ◌, ◌&&◌, ◌||◌, nat_eq}
 use Rattle.std.proofs.Math.Nat.{mul-div_cancel, mul-le-mul_left}
 use Rattle.std.proofs.lemmas.Int.{ints}
 use Rattle.std.proofs.lemmas.Bool.{cases_lt, eqb-true, false≢true}
@@ -12,21 +11,21 @@ use Rattle.std.proofs.lemmas.List.Sums.{sum_by_push, sum_by-set}
 use Rattle.std.proofs.lemmas.List.Elements.{All-contains, All-set, All-append, All-cons, All-nil, All-take, Contains-get_or}
 use Rattle.plane.specs.declared.coordinates.Point.{Point}
 use Rattle.plane.specs.declared.segment.Pair.{Pair}
-use Rattle.plane.specs.Geometry.{point, area, AreCrossing}
+use Rattle.plane.specs.Geometry.{point, AreCrossing}
 use Rattle.plane.proofs.laws.Area.{area_first}
-use Rattle.partition_defs.specs.Partition.{HasEnds}
 use Rattle.cost_defs.specs.Costs.{has_ends}
 use Rattle.price_defs.specs.declared.row.Row.{Row}
 use Rattle.price_defs.specs.declared.row.Row.TheVariants.{Half, Three, Cross, Cap}
-use Rattle.price_defs.specs.Rows.{IsRight, AreRight, weight, Counts, counts, lessens, in_need}
+use Rattle.price_defs.specs.Rows.{IsRight, AreRight, weight, counts, lessens, in_need}
 use Rattle.price_defs.specs.Limits.{AreLight}
-use Rattle.price_defs.specs.Loads.{given, lessened, gives, takes, load}
+use Rattle.price_defs.specs.Loads.{given, lessened, load}
 use Rattle.price_defs.specs.Raising.{reweigh}
-use Rattle.price_defs.proofs.laws.Tests.{has_ends_decides, counts_decides}
+use Rattle.price_defs.proofs.laws.Tests.{has_ends_decides}
 use Rattle.price_defs.proofs.laws.Values.{gives_le, takes_le}
 use Rattle.price_defs.specs.Rows.{row_at}
 use Rattle.dual_prices.proofs.Rooms.{counts_same}
 use Rattle.dual_prices.specs.Tables.{tri, slot, entry, at, IsSmall, AreSmall, IsStep, IsShifted, change, IsPartlyAdded, IsRowAdded, IsTableOf, IsLoaded}
+use Rattle.price_defs.proofs.laws.Reweighed.{counts_reweigh, lessens_reweigh, weight_reweigh, right_reweigh}
 
 -- places
 pub tri_twice : (n : ℕ) → 2 * tri n + n ≡ n * n
@@ -260,26 +259,6 @@ pub load_push : (S : List Point) (rows : List Row) (row : Row) (i j : ℕ) → l
 load_push S rows row i j =
     omega (arith, ints, sum_by_push (given S i j) rows row, sum_by_push (lessened i j) rows row, cond_pos (counts S row i j) (weight row), cond_pos (lessens row i j) (weight row))
 
-counts_reweigh : (S : List Point) (row : Row) (v i j : ℕ) → counts S (reweigh row v) i j ≡ counts S row i j
-unfolding counts
-counts_reweigh S (Half p q w) v i j = refl
-counts_reweigh S (Three p w) v i j = refl
-counts_reweigh S (Cross e f w) v i j = refl
-counts_reweigh S (Cap e w) v i j = refl
-
-lessens_reweigh : (row : Row) (v i j : ℕ) → lessens (reweigh row v) i j ≡ lessens row i j
-unfolding lessens
-lessens_reweigh (Half p q w) v i j = refl
-lessens_reweigh (Three p w) v i j = refl
-lessens_reweigh (Cross e f w) v i j = refl
-lessens_reweigh (Cap e w) v i j = refl
-
-weight_reweigh : (row : Row) (v : ℕ) → weight (reweigh row v) ≡ v
-weight_reweigh (Half p q w) v = refl
-weight_reweigh (Three p w) v = refl
-weight_reweigh (Cross e f w) v = refl
-weight_reweigh (Cap e w) v = refl
-
 cond_by : (b : Bool) (w v : ℕ) (by : ℤ) → pos v ≡ (pos w +ℤ by) → pos (cond b v 0) ≡ (pos (cond b w 0) +ℤ cond b by (pos 0))
 cond_by true w v by h = h
 cond_by false w v by h = refl
@@ -364,12 +343,6 @@ three_added S row p w by old new e part =
     (added_of_part S (Three p w) p by old new (three_only S p w) (three_none p w) (subst (λ (x : Row). IsPartlyAdded S x p by (length S) old new) e part))
 
 -- certificates with their tables
-right_reweigh : (S : List Point) (row : Row) (v : ℕ) → IsRight S row → IsRight S (reweigh row v)
-right_reweigh S (Half p q w) v h = h
-right_reweigh S (Three p w) v h = h
-right_reweigh S (Cross e f w) v h = h
-right_reweigh S (Cap e w) v h = h
-
 pub right_at : (S : List Point) (rows : List Row) (k : ℕ) → k < length rows → AreRight S rows → IsRight S (row_at rows k)
 right_at S rows k l right = All-contains (IsRight S) rows (row_at rows k) right (Contains-get_or rows k (Three 0 0) l)
 

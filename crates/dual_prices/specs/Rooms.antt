@@ -1,6 +1,6 @@
 -- For private clauses.
 -- The least room of a row, over the other ends.
-use Rattle.std.specs.Prelude.{◌≡◌, ◌≢◌, ℕ, ◌*◌, ◌<◌, ◌≤◌, ◌⊎◌, List, length, take, drop, set, slice_index_or, Option, Some, None, Bool, true, false, IsTrue, ◌↔◌, pos, ◌+ℤ◌, ◌≤ℤ◌}
+use Rattle.std.specs.Prelude.{◌≡◌, ◌≢◌, ℕ, ◌*◌, ◌<◌, ◌≤◌, List, length, take, drop, set, slice_index_or, Option, Some, None, Bool, true, false, IsTrue, ◌↔◌, pos, ◌+ℤ◌, ◌≤ℤ◌}
 use Rattle.std.specs.List.{All, sum_by}
 use Rattle.plane.specs.declared.coordinates.Point.{Point}
 use Rattle.plane.specs.Geometry.{IsClear}

@@ -15,6 +15,7 @@ use Rattle.star.proofs.laws.Marks.{one_mark, one_next, mark_at, marked_neighbour
 use Rattle.journal_defs.proofs.laws.Table.{one_shown}
 use Rattle.edit.specs.Shown.{IsShownApex}
 use Rattle.edit.specs.FlipRow.{IsOneOf}
+use Rattle.std.proofs.lemmas.Option.{same_Some}
 
 -- where the neighbour after q isn't on the left there is no apex
 pub not_left : (S : List Point) (s : Seen) (p q r : ℕ) → IsStar s → IsNext s q (Some r) → ¬ (pos 0 <ℤ orientation S p q r) → (t : ℕ) → ¬ ShowsApex S s p q t
@@ -23,15 +24,12 @@ not_left S s p q r star next right t h = right (subst (λ x. pos 0 <ℤ orientat
 pub not_next : (S : List Point) (s : Seen) (p q : ℕ) → IsNext s q None → (t : ℕ) → ¬ ShowsApex S s p q t
 not_next S s p q none t ((k, stands, is), left) = none (k, stands)
 
-same_some : (a b : ℕ) → Some a ≡ Some b → a ≡ b
-same_some a b h = cc
-
 pub shown_some : (S : List Point) (s : Seen) (p q v : ℕ) (k : Option ℕ) → IsShownApex S s p q k → k ≡ Some v → ShowsApex S s p q v
 shown_some S s p q v None h e = absurd (no_some v e)
   where
     no_some : (v : ℕ) → ¬ (None ≡ Some v)
     no_some v e = cc
-shown_some S s p q v (Some r) h e = subst (λ x. ShowsApex S s p q x) (same_some r v e) h
+shown_some S s p q v (Some r) h e = subst (λ x. ShowsApex S s p q x) (same_Some r v e) h
 
 some_shown : (S : List Point) (s : Seen) (p q v : ℕ) (k : Option ℕ) → IsStar s → IsShownApex S s p q k → ShowsApex S s p q v → k ≡ Some v
 some_shown S s p q v None star h g = absurd (h v g)
@@ -51,17 +49,17 @@ pub joins_shown : (S : List Point) (low high : Seen) (e f : Pair) (k l : ℕ) �
 joins_shown S low high e f k l hk hl a b = record { near = hk; far = hl; ends = ends a b }
   where
     ends : IsOneOf (Some k) (Some l) f.lo → IsOneOf (Some k) (Some l) f.hi → HasEnds f k l
-    ends (inl x) (inl y) = absurd (let p = same_some k f.lo x in let q = same_some k f.hi y in let o = f.ordered in omega (arith, p, q))
-    ends (inl x) (inr y) = inl (sym (same_some k f.lo x), sym (same_some l f.hi y))
-    ends (inr x) (inl y) = inr (sym (same_some l f.lo x), sym (same_some k f.hi y))
-    ends (inr x) (inr y) = absurd (let p = same_some l f.lo x in let q = same_some l f.hi y in let o = f.ordered in omega (arith, p, q))
+    ends (inl x) (inl y) = absurd (let p = same_Some k f.lo x in let q = same_Some k f.hi y in let o = f.ordered in omega (arith, p, q))
+    ends (inl x) (inr y) = inl (sym (same_Some k f.lo x), sym (same_Some l f.hi y))
+    ends (inr x) (inl y) = inr (sym (same_Some l f.lo x), sym (same_Some k f.hi y))
+    ends (inr x) (inr y) = absurd (let p = same_Some l f.lo x in let q = same_Some l f.hi y in let o = f.ordered in omega (arith, p, q))
 
 -- so both apexes are there
 pub both_there : (near far : Option ℕ) (f : Pair) → IsOneOf near far f.lo → IsOneOf near far f.hi → ((k : ℕ) × (near ≡ Some k)) × ((l : ℕ) × (far ≡ Some l))
 both_there near far f (inl x) (inr y) = ((f.lo, x), (f.hi, y))
 both_there near far f (inr x) (inl y) = ((f.hi, y), (f.lo, x))
-both_there near far f (inl x) (inl y) = absurd (let p = same_some f.lo f.hi (sym x ∙ y) in let o = f.ordered in omega (arith, p))
-both_there near far f (inr x) (inr y) = absurd (let p = same_some f.lo f.hi (sym x ∙ y) in let o = f.ordered in omega (arith, p))
+both_there near far f (inl x) (inl y) = absurd (let p = same_Some f.lo f.hi (sym x ∙ y) in let o = f.ordered in omega (arith, p))
+both_there near far f (inr x) (inr y) = absurd (let p = same_Some f.lo f.hi (sym x ∙ y) in let o = f.ordered in omega (arith, p))
 
 -- without a neighbour that isn't kept the needs are those of all kept neighbours
 kept_at : (s : Seen) (k : ℕ) → IsKept s.list k → HasMark s (entry s.list k).0 true

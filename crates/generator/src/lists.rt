@@ -22,7 +22,7 @@ const ACROSS: i64 = 1_099_511_627_776;
 
 const UPWARD: i64 = 68_719_476_736;
 
-// Three corners, and then a point in each strip.
+/// Three corners, and then a point in each strip.
 pub fn scatter(alloc: Global, n: u32, seed: u64) -> Result<Vec<Point>, AllocError>
     requires least { 3 ≤ n }
     requires most { n ≤ 5000 }
@@ -63,7 +63,7 @@ fn strip_point(n: u32, j: u32, across: u32, upward: u32) -> Point
     at(1000 * (j + 1) + across % 1000, 1 + upward % (1000 * n))
 }
 
-// Rows of points.
+/// Rows of points.
 pub fn grid(alloc: Global, n: u32) -> Result<Vec<Point>, AllocError>
     requires least { 3 ≤ n }
     requires most { n ≤ 5000 }
@@ -94,7 +94,7 @@ fn side_of(n: u32) -> u32
     71
 }
 
-// Points on a parabola.
+/// Points on a parabola.
 pub fn ring(alloc: Global, n: u32) -> Result<Vec<Point>, AllocError>
     requires least { 3 ≤ n }
     requires most { n ≤ 5000 }
@@ -116,7 +116,7 @@ fn square(k: u32) -> u32
     k * k
 }
 
-// Points on a parabola, far apart.
+/// Points on a parabola, far apart.
 pub fn wide(alloc: Global, n: u32) -> Result<Vec<Point>, AllocError>
     requires least { 3 ≤ n }
     requires most { n ≤ 5000 }

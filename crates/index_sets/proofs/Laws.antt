@@ -15,15 +15,12 @@ use Rattle.index_sets.specs.Indices.{contains, all_but, HasNoRepeat, numbers_fro
 use Rattle.index_sets.specs.Prefixes.{longer}
 use Rattle.index_sets.specs.Entries.{entries_of, LacksCaller}
 use Rattle.index_sets.specs.Owners.{handed, merged, IsCut}
+use Rattle.std.proofs.lemmas.Bool.{or_right}
 
 -- Tests.
 pub is_false : (b : Bool) → (b ≡ true → ⊥) → b ≡ false
 is_false true n = absurd (n refl)
 is_false false n = refl
-
-pub or-right : (a b : Bool) → b ≡ true → (a || b) ≡ true
-or-right true b e = refl
-or-right false b e = e
 
 -- Lists of indices.
 pub contains-first : (xs : List ℕ) (i : ℕ) → contains (i ∷ xs) i ≡ true
@@ -33,7 +30,7 @@ pub contains-other : (xs : List ℕ) (i j : ℕ) → j ≢ i → contains (i ∷
 contains-other xs i j n = ap (λ b. b || contains xs j) (ne_eqb i j (λ e. n (sym e)))
 
 pub contains-later : (x : ℕ) (xs : List ℕ) (p : ℕ) → contains xs p ≡ true → contains (x ∷ xs) p ≡ true
-contains-later x xs p h = or-right (nat_eq x p) (contains xs p) h
+contains-later x xs p h = or_right (nat_eq x p) (contains xs p) h
 
 pub contains-one : (i j : ℕ) → contains (i ∷ []) j ≡ true → j ≡ i
 contains-one i j h = dite (ℕ_discrete i j) sym (λ n. absurd (true≢false (sym h ∙ ap (λ b. b || false) (ne_eqb i j n))))
@@ -41,11 +38,11 @@ contains-one i j h = dite (ℕ_discrete i j) sym (λ n. absurd (true≢false (sy
 pub contains-left : (xs ys : List ℕ) (p : ℕ) → contains xs p ≡ true → contains (xs ++ ys) p ≡ true
 contains-left [] ys p h = absurd (true≢false (sym h))
 contains-left (x ∷ xs) ys p h = dite (ℕ_discrete x p) (λ e. ap (λ b. b || contains (xs ++ ys) p) (eq-eqb x p e))
-    (λ n. or-right (nat_eq x p) (contains (xs ++ ys) p) (contains-left xs ys p (sym (ap (λ b. b || contains xs p) (ne_eqb x p n)) ∙ h)))
+    (λ n. or_right (nat_eq x p) (contains (xs ++ ys) p) (contains-left xs ys p (sym (ap (λ b. b || contains xs p) (ne_eqb x p n)) ∙ h)))
 
 pub contains-right : (xs ys : List ℕ) (p : ℕ) → contains ys p ≡ true → contains (xs ++ ys) p ≡ true
 contains-right [] ys p h = h
-contains-right (x ∷ xs) ys p h = or-right (nat_eq x p) (contains (xs ++ ys) p) (contains-right xs ys p h)
+contains-right (x ∷ xs) ys p h = or_right (nat_eq x p) (contains (xs ++ ys) p) (contains-right xs ys p h)
 
 pub contains-append : (xs ys : List ℕ) (p : ℕ) → contains (xs ++ ys) p ≡ true → (contains xs p ≡ true) ⊎ (contains ys p ≡ true)
 contains-append [] ys p h = inr h
@@ -126,7 +123,7 @@ numbers_from-most n (suc m) p h = dite (ℕ_discrete n p) (λ e. omega arith) (�
 
 pub numbers_from-all : (n count p : ℕ) → n ≤ p → p < n + count → contains (numbers_from n count) p ≡ true
 numbers_from-all n zero p l u = absurd (omega arith)
-numbers_from-all n (suc m) p l u = dite (ℕ_discrete n p) (λ e. ap (λ b. b || contains (numbers_from (suc n) m) p) (eq-eqb n p e)) (λ ne. or-right (nat_eq n p) (contains (numbers_from (suc n) m) p) (numbers_from-all (suc n) m p (omega arith) (omega arith)))
+numbers_from-all n (suc m) p l u = dite (ℕ_discrete n p) (λ e. ap (λ b. b || contains (numbers_from (suc n) m) p) (eq-eqb n p e)) (λ ne. or_right (nat_eq n p) (contains (numbers_from (suc n) m) p) (numbers_from-all (suc n) m p (omega arith) (omega arith)))
 
 pub numbers_from-snoc : (n count : ℕ) → numbers_from n (suc count) ≡ numbers_from n count ++ (n + count) ∷ []
 numbers_from-snoc n zero = ap (λ x. x ∷ []) (let z : n ≡ n + 0 = omega arith in z)

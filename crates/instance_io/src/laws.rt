@@ -15,9 +15,11 @@ pub fn instance_reads_back(instance: &Instance)
     requires short { length instance.now.name ≤ 1000 }
     requires few { length instance.now.costs ≤ 300000 }
     requires below { All (λ x. x.0.hi < length instance.now.points) instance.now.costs }
-    ensures read { IsRead (instance_from (instance_text (map cost_item instance.now.costs) instance.now.name (map coordinates instance.now.points))) (Ok instance.now) }
+    ensures read { IsRead (instance_from (instance_text (map cost_item instance.now.costs) instance.now.name
+        (map coordinates instance.now.points))) (Ok instance.now) }
     ensures once { (other : Instance)
-        → IsRead (instance_from (instance_text (map cost_item instance.now.costs) instance.now.name (map coordinates instance.now.points))) (Ok other)
+        → IsRead (instance_from (instance_text (map cost_item instance.now.costs) instance.now.name
+            (map coordinates instance.now.points))) (Ok other)
         → other ≡ instance.now }
 {
     let _count = instance.points.len();
@@ -27,7 +29,8 @@ pub fn instance_reads_back(instance: &Instance)
 
 /// A text gives one instance at most.
 pub fn reading_is_one()
-    ensures { (text : List ℕ) (one other : Instance) → IsRead (instance_from text) (Ok one) → IsRead (instance_from text) (Ok other) → one ≡ other }
+    ensures { (text : List ℕ) (one other : Instance) → IsRead (instance_from text) (Ok one)
+        → IsRead (instance_from text) (Ok other) → one ≡ other }
 {}
 
 /// A text that gives an instance isn't refused.

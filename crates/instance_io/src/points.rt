@@ -1,8 +1,10 @@
 // The points of an array of items.
-ghost use Rattle.std.specs.Prelude.{◌≡◌, ◌<◌, ◌^◌, map, length, true, false, slice_index_or, None, Some, option_map, MatchOption, MatchResult};
+ghost use Rattle.std.specs.Prelude.{◌≡◌, ◌<◌, ◌^◌, map, length, true, false, slice_index_or, None, Some, option_map};
+ghost use Rattle.std.specs.Prelude.{MatchOption, MatchResult};
 ghost use Rattle.std.specs.List.{position};
 ghost use Rattle.serde_json.specs.View.{view};
-ghost use Rattle.text_defs.specs.Instances.{point_fault, point_of, has_index, is_indexed, differs, index_in, index_fault, points_fault, points_of};
+ghost use Rattle.text_defs.specs.Instances.{point_fault, point_of, has_index, is_indexed, differs, index_in};
+ghost use Rattle.text_defs.specs.Instances.{index_fault, points_fault, points_of};
 ghost use Rattle.instance_io.specs.Refusal.{coordinates};
 ghost use Rattle.instance_io.specs.Told.{Tells, is_seen, lack_of};
 

@@ -6,7 +6,8 @@ ghost use Rattle.plane.specs.Geometry.{AreCrossing};
 ghost use Rattle.partition_defs.specs.Partition.{AreWithin};
 ghost use Rattle.partition_defs.specs.Sets.{is_same, precedes, without as without_spec, with_one as with_spec};
 ghost use Rattle.journal_defs.specs.Edits.{after as after_spec, IsLegalDrop, IsSpare, IsLegalFlip, IsLegal};
-ghost use Rattle.journal_defs.specs.Journal.{AreLegal, IsFirstIllegal, after_all as all_spec, opening as opening_spec, replay as replay_spec};
+ghost use Rattle.journal_defs.specs.Journal.{AreLegal, IsFirstIllegal, after_all as all_spec, opening as opening_spec};
+ghost use Rattle.journal_defs.specs.Journal.{replay as replay_spec};
 
 use crate::commit::Commit;
 use crate::edit::Edit;
@@ -231,7 +232,8 @@ fn again(alloc: Global, state: &Lists) -> Result<Lists, NoMemory>
 // The state after an edit, or none where it isn't legal.
 fn step(alloc: Global, points: &Points, state: &Lists, e: Edit) -> Result<Option<Lists>, NoMemory>
     requires { AreWithin points.now state.now.all }
-    ensures { IfOk result (λ o. MatchOption o (¬ IsLegal points.now state.now e) (λ t. IsLegal points.now state.now e × (t ≡ after_spec e state.now))) }
+    ensures { IfOk result (λ o. MatchOption o (¬ IsLegal points.now state.now e)
+        (λ t. IsLegal points.now state.now e × (t ≡ after_spec e state.now))) }
 {
     if is_legal(alloc, points, state, e)? {
         Ok(Some(after(alloc, e, state)?))
@@ -249,7 +251,8 @@ pub fn first_illegal(
 ) -> Result<Option<u32>, NoMemory>
     requires within { AreWithin points.now state.now.all }
     requires few { length edits.now < 2 ^ 32 }
-    ensures { IfOk result (λ o. MatchOption o (AreLegal points.now state.now edits.now) (λ k. IsFirstIllegal points.now state.now edits.now k)) }
+    ensures { IfOk result (λ o. MatchOption o (AreLegal points.now state.now edits.now)
+        (λ k. IsFirstIllegal points.now state.now edits.now k)) }
 {
     let mut now = again(alloc, state)?;
     for k in 0..edits.len() {

@@ -4,7 +4,8 @@ ghost use Rattle.std.specs.List.{prefix_len, take_while, list_any};
 ghost use Rattle.std.specs.Char.{is_ascii_digit};
 ghost use Rattle.std.specs.Str.Parse.{digits_value};
 ghost use Rattle.json.specs.Word.{head, after_minus, after_sign, after_digits, after_whole, after_fraction, after_exponent, after_number};
-ghost use Rattle.text_defs.specs.Numbers.{is_number, is_exponent_mark, is_counting_digit, is_broken, after_whole_part, whole_text, replacement};
+ghost use Rattle.text_defs.specs.Numbers.{is_number, is_exponent_mark, is_counting_digit, is_broken, after_whole_part};
+ghost use Rattle.text_defs.specs.Numbers.{whole_text, replacement};
 
 // One more than the greatest value that a sign can bring within 64 bits.
 pub(crate) const CAP: u64 = 9_223_372_036_854_775_809;

@@ -1,5 +1,6 @@
 // A source and a sink in memory, which give and take in steps and fail at the calls that are listed.
-ghost use Rattle.std.specs.Prelude.{◌≡◌, ◌↔◌, ◌≤◌, ◌<◌, ◌++◌, ◌-◌, [], List, ℕ, min, length, take, drop, Some, Contains, IsErr, IfOk, OnOk, OnErr};
+ghost use Rattle.std.specs.Prelude.{◌≡◌, ◌↔◌, ◌≤◌, ◌<◌, ◌++◌, ◌-◌, [], List, ℕ, min, length, take, drop, Some};
+ghost use Rattle.std.specs.Prelude.{Contains, IsErr, IfOk, OnOk, OnErr};
 ghost use Rattle.std.specs.Io.{ReadsAtMost, WritesAtMost};
 ghost use Rattle.std.specs.Io.KnownBytes.{WriteAppends};
 ghost use Rattle.mcp_outside.specs.Causes.{HasCause, next_count};
@@ -28,7 +29,8 @@ impl Model for MemorySource {
 
     ghost Value = { SourceState };
 
-    ghost view = { λ s. record { left = drop s.at s.bytes.items; step = s.step; failing = s.failing.items; calls = s.calls; faults = s.faults } };
+    ghost view = { λ s. record { left = drop s.at s.bytes.items; step = s.step; failing = s.failing.items;
+        calls = s.calls; faults = s.faults } };
 
     ghost invariant = { λ s. (s.at ≤ vec_len s.bytes) × (0 < s.step) };
 }
@@ -75,7 +77,8 @@ impl Source for MemorySource {
         ensures failed { IsErr result ↔ Contains self.old.failing (next_count self.old.calls) }
         ensures count { IfOk result (λ k. k ≡ min self.old.step (min (length room.new) (length self.old.left))) }
         ensures moved { IfOk result (λ k. self.new ≡ record self.old { left = drop k self.old.left; calls = next_count self.old.calls }) }
-        ensures nothing { OnErr result (self.new ≡ record self.old { calls = next_count self.old.calls; faults = next_count self.old.faults }) }
+        ensures nothing { OnErr result (self.new
+            ≡ record self.old { calls = next_count self.old.calls; faults = next_count self.old.faults }) }
         ensures untouched { OnErr result (room.new ≡ room.old) }
     {
         self.calls = self.calls.saturating_add(1);
@@ -109,7 +112,8 @@ impl Model for MemorySink {
 
     ghost Value = { SinkState };
 
-    ghost view = { λ s. record { written = s.bytes.items; room = s.room; step = s.step; failing = s.failing.items; calls = s.calls; faults = s.faults } };
+    ghost view = { λ s. record { written = s.bytes.items; room = s.room; step = s.step; failing = s.failing.items;
+        calls = s.calls; faults = s.faults } };
 
     ghost invariant = { λ s. (vec_len s.bytes + s.room ≤ vec_capacity s.bytes) × (0 < s.step) };
 }
@@ -124,7 +128,8 @@ impl MemorySink {
         failing: Vec<u64>,
     ) -> Result<MemorySink, NoMemory>
         requires { 1 ≤ step }
-        ensures { IfOk result (λ sink. sink ≡ record { written = []; room = room; step = step; failing = failing.items; calls = 0; faults = 0 }) }
+        ensures { IfOk result (λ sink. sink
+            ≡ record { written = []; room = room; step = step; failing = failing.items; calls = 0; faults = 0 }) }
     {
         Ok(MemorySink {
             bytes: Vec::with_capacity(alloc, room)?,
@@ -160,8 +165,11 @@ impl Sink for MemorySink {
         ensures kept { OnOk result (self.new.faults ≡ self.old.faults) }
         ensures failed { IsErr result ↔ MustFail self.old piece.now }
         ensures count { IfOk result (λ k. k ≡ min self.old.step (min (length piece.now) self.old.room)) }
-        ensures appended { IfOk result (λ k. self.new ≡ record self.old { written = self.old.written ++ take k piece.now; room = self.old.room - k; calls = next_count self.old.calls }) }
-        ensures nothing { OnErr result (self.new ≡ record self.old { calls = next_count self.old.calls; faults = next_count self.old.faults }) }
+        ensures appended { IfOk result
+            (λ k. self.new ≡ record self.old { written = self.old.written ++ take k piece.now;
+            room = self.old.room - k; calls = next_count self.old.calls }) }
+        ensures nothing { OnErr result (self.new
+            ≡ record self.old { calls = next_count self.old.calls; faults = next_count self.old.faults }) }
     {
         self.calls = self.calls.saturating_add(1);
         let no_room = self.room == 0 && !piece.is_empty();

@@ -55,10 +55,17 @@ cancel_strict a b ha h = by_sign b (λ p. p) (λ p. absurd (omega (arith, ints, 
 pub zero_of_weak : (x : ℤ) → pos 0 ≤ℤ x → pos 0 ≤ℤ neg_ℤ x → x ≡ pos 0
 zero_of_weak x g h = omega (arith, ints)
 
+pub zero_of_both : (x : ℤ) → pos 0 ≤ℤ x → x ≤ℤ pos 0 → x ≡ pos 0
+zero_of_both x g h = omega (arith, ints)
+
+pub not_positive : (x : ℤ) → (pos 0 <ℤ x → ⊥) → x ≤ℤ pos 0
+not_positive x f = by_sign x (λ h. absurd (f h)) (λ h. omega (arith, ints)) (λ h. omega (arith, ints))
+
 pub zero_of_own : (x : ℤ) → x ≡ neg_ℤ x → x ≡ pos 0
 zero_of_own x h = omega (arith, ints)
 
-square_at_least : (a : ℤ) → pos 0 ≤ℤ (a *ℤ a)
+-- a square isn't negative
+pub square_at_least : (a : ℤ) → pos 0 ≤ℤ (a *ℤ a)
 square_at_least a = elim (negative_or a) [
   | inl h ↦ (let p = negative_negative a a h h in omega (arith, ints))
   | inr rest ↦ elim rest [ inl e ↦ (let z : a *ℤ a ≡ pos 0 = ap (λ x. x *ℤ a) e ∙ zero-*ℤ a in omega (arith, ints)) | inr h ↦ (let p = positive_positive a a h h in omega (arith, ints)) ]

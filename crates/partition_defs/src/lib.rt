@@ -3,7 +3,8 @@
 
 ghost use Rattle.std.specs.Prelude.{◌<◌, ◌≢◌, ◌↔◌, length, IsTrue};
 ghost use Rattle.plane.specs.Geometry.{IsBorderPair, IsInNeed, IsInner};
-ghost use Rattle.partition_defs.specs.Partition.{HasEnds, Joins, AreWithin, AreClear, ArePlane, CrossesNone, HasBorder, HasBorderFrom, IsMet, MeetsNeedsAt, MeetsNeeds, IsConvexPartition};
+ghost use Rattle.partition_defs.specs.Partition.{HasEnds, Joins, AreWithin, AreClear, ArePlane, CrossesNone, HasBorder};
+ghost use Rattle.partition_defs.specs.Partition.{HasBorderFrom, IsMet, MeetsNeedsAt, MeetsNeeds, IsConvexPartition};
 
 pub mod laws;
 

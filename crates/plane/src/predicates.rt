@@ -1,7 +1,8 @@
 // The tests on an accepted point set. Each answers exactly its definition.
 ghost use Rattle.std.specs.Prelude.{◌≡◌, ◌≢◌, ◌<◌, ◌≤◌, ◌↔◌, length, IsTrue, ◌<ℤ◌, ◌≤ℤ◌, pos};
 ghost use Rattle.plane.specs.First.{IsLeastOrNone};
-ghost use Rattle.plane.specs.Geometry.{orientation, IsTurn, IsBetween, AreCrossing, AreOpposite, IsClear, HasAllLeft, IsBorderPair, IsInner, IsInNeed};
+ghost use Rattle.plane.specs.Geometry.{orientation, IsTurn, IsBetween, AreCrossing, AreOpposite, IsClear, HasAllLeft};
+ghost use Rattle.plane.specs.Geometry.{IsBorderPair, IsInner, IsInNeed};
 
 use crate::accepted::Points;
 use crate::bounding_box::BoundingBox;

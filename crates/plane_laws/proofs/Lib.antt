@@ -1,4 +1,5 @@
 pub mod Order
+pub mod Nearest
 pub mod Steps
 pub mod Orientations
 pub mod Between

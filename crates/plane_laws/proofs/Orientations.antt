@@ -18,6 +18,18 @@ unfolding area
 area_steps p q r =
     omega (arith, ints, mul_differences q.x p.x r.y p.y, mul_differences q.y p.y r.x p.x, mul_differences q.x p.x r.y q.y, mul_differences q.y p.y r.x q.x)
 
+-- the area by the steps from r to p and from p to q
+pub area_steps_before : (p q r : Point) → area p q r ≡ cross (p.x -ℤ r.x) (p.y -ℤ r.y) (q.x -ℤ p.x) (q.y -ℤ p.y)
+unfolding area
+area_steps_before p q r =
+    omega (arith, ints, mul_differences q.x p.x r.y p.y, mul_differences q.y p.y r.x p.x, mul_differences p.x r.x q.y p.y, mul_differences p.y r.y q.x p.x)
+
+-- the area by the steps from r to q and from p to q
+pub area_steps_into : (p q r : Point) → area p q r ≡ cross (q.x -ℤ r.x) (q.y -ℤ r.y) (q.x -ℤ p.x) (q.y -ℤ p.y)
+unfolding area
+area_steps_into p q r =
+    omega (arith, ints, mul_differences q.x p.x r.y p.y, mul_differences q.y p.y r.x p.x, mul_differences q.x r.x q.y p.y, mul_differences q.y r.y q.x p.x)
+
 -- the determinant of two points
 unfoldable pub det : (p q : Point) → ℤ
 det p q = p.x *ℤ q.y -ℤ p.y *ℤ q.x

@@ -1,20 +1,20 @@
 -- A row with another weight is linked as before.
-use Rattle.std.proofs.Common.{◌≡◌, ◌≢◌, ℕ, ◌+◌, ◌<◌, ◌≤◌, inl, inr, List, length, get_or, take, set, Option, Some, None, Bool, true, false, sym, ◌∙◌, ap, subst, refl, arith}
-use Rattle.std.specs.List.{sum_by}
+use Rattle.std.proofs.Common.{◌≡◌, ℕ, ◌<◌, ◌≤◌, inl, inr, List, length, take, set, Option, Some, None, sym, ◌∙◌, ap, refl, arith}
 use Rattle.std.proofs.lemmas.Bool.{cases_lt}
-use Rattle.std.proofs.lemmas.List.{length-set, length-take, get_or-take, get_or-set_same, get_or-set_other, get_or_default}
+use Rattle.std.proofs.lemmas.List.{length-set, length-take, get_or-take, get_or-set_same, get_or-set_other}
 use Rattle.std.proofs.lemmas.List.Sums.{sum_by-set}
 use Rattle.std.proofs.lemmas.List.Elements.{All-set, All-contains, Contains-get_or}
 use Rattle.plane.specs.declared.coordinates.Point.{Point}
 use Rattle.plane.specs.declared.segment.Pair.{Pair}
 use Rattle.price_defs.specs.declared.row.Row.{Row}
 use Rattle.price_defs.specs.declared.row.Row.TheVariants.{Half, Three, Cross, Cap}
-use Rattle.price_defs.specs.Rows.{IsRight, AreRight, is_at, weight, lessens}
+use Rattle.price_defs.specs.Rows.{IsRight, is_at, weight, lessens}
 use Rattle.price_defs.specs.Tight.{IsAtPoint}
-use Rattle.price_defs.specs.Loads.{lessened, takes}
+use Rattle.price_defs.specs.Loads.{lessened}
 use Rattle.price_defs.specs.Raising.{reweigh}
 use Rattle.price_defs.specs.Rows.{row_at}
 use Rattle.point_rows.specs.Placed.{IsLastAt, entry, IsLinked, IsKept}
+use Rattle.price_defs.proofs.laws.Reweighed.{weight_reweigh, right_reweigh}
 
 last_same : (rows new : List Row) (p : ℕ) (o : Option ℕ) → length new ≡ length rows → ((j : ℕ) → j < length rows → is_at p (row_at new j) ≡ is_at p (row_at rows j)) → IsLastAt rows p o → IsLastAt new p o
 last_same rows new p None len same last = λ k l. (let m : k < length rows = omega arith in same k m ∙ last k m)
@@ -25,18 +25,6 @@ at_reweigh p (Half u q v) w = refl
 at_reweigh p (Three u v) w = refl
 at_reweigh p (Cross e f v) w = refl
 at_reweigh p (Cap e v) w = refl
-
-right_reweigh : (S : List Point) (row : Row) (v : ℕ) → IsRight S row → IsRight S (reweigh row v)
-right_reweigh S (Half p q w) v h = h
-right_reweigh S (Three p w) v h = h
-right_reweigh S (Cross e f w) v h = h
-right_reweigh S (Cap e w) v h = h
-
-weight_reweigh : (row : Row) (v : ℕ) → weight (reweigh row v) ≡ v
-weight_reweigh (Half p q w) v = refl
-weight_reweigh (Three p w) v = refl
-weight_reweigh (Cross e f w) v = refl
-weight_reweigh (Cap e w) v = refl
 
 takes_nothing : (row : Row) (i j : ℕ) → IsAtPoint row → lessened i j row ≡ 0
 unfolding lessens

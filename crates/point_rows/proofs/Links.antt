@@ -1,9 +1,9 @@
 -- Rows linked by the points at which they stand: one row more.
-use Rattle.std.proofs.Common.{◌≡◌, ℕ, ◌+◌, ◌<◌, ◌≤◌, ◌⊎◌, inl, inr, List, [], ◌∷◌, ◌++◌, length, get_or, take, set, Option, Some, None, Bool, true, false, sym, ◌∙◌, ap, subst, refl, arith, length-append}
+use Rattle.std.proofs.Common.{◌≡◌, ℕ, ◌+◌, ◌<◌, inl, inr, List, [], ◌∷◌, ◌++◌, length, get_or, take, set, Option, Some, None, true, false, sym, ◌∙◌, ap, subst, refl, arith, length-append}
 use Rattle.std.specs.Prelude.{nat_eq, IfSome}
-use Rattle.std.proofs.lemmas.Bool.{cases_lt, eqb-true, false≢true, true≢false}
+use Rattle.std.proofs.lemmas.Bool.{eqb-true, false≢true}
 use Rattle.std.proofs.lemmas.List.{get_or_append_left, take-append-le, take_more, length-set, length-take, get_or-set_same, get_or-set_other}
-use Rattle.std.proofs.Math.Seq.{get_or-append_seam, take-append_seam, take-length}
+use Rattle.std.proofs.Math.Seq.{get_or-append_seam, take-append_seam}
 use Rattle.std.proofs.lemmas.Bool.Decides.{Decides-eqb}
 use Rattle.price_defs.specs.declared.row.Row.{Row}
 use Rattle.price_defs.specs.declared.row.Row.TheVariants.{Half, Three, Cross, Cap}
@@ -11,9 +11,7 @@ use Rattle.plane.specs.declared.coordinates.Point.{Point}
 use Rattle.price_defs.specs.Rows.{IsRight, stand, is_at}
 use Rattle.price_defs.specs.Rows.{row_at}
 use Rattle.point_rows.specs.Placed.{IsLastAt, entry, at_stand, noted, IsLinked}
-
-pub below_or_end : (k n : ℕ) → k < n + 1 → (k < n) ⊎ (k ≡ n)
-below_or_end k n h = elim (cases_lt k n) [ inl l ↦ inl l | inr g ↦ inr (omega arith) ]
+use Rattle.number_laws.proofs.Naturals.{below_or_last}
 
 row_low : (rows : List Row) (row : Row) (k : ℕ) → k < length rows → row_at (rows ++ row ∷ []) k ≡ row_at rows k
 row_low rows row k h = get_or_append_left rows (row ∷ []) (Three 0 0) k h
@@ -23,14 +21,14 @@ row_end rows row = get_or-append_seam rows row [] (Three 0 0)
 
 -- the last row at p stays where a row is added that isn't at p
 last_stays : (rows : List Row) (row : Row) (p : ℕ) (o : Option ℕ) → is_at p row ≡ false → IsLastAt rows p o → IsLastAt (rows ++ row ∷ []) p o
-last_stays rows row p None never h = λ k l. elim (below_or_end k (length rows) (omega (arith, length-append rows (row ∷ [])))) [
+last_stays rows row p None never h = λ k l. elim (below_or_last k (length rows) (omega (arith, length-append rows (row ∷ [])))) [
   | inl m ↦ ap (is_at p) (row_low rows row k m) ∙ h k m
   | inr e ↦ ap (λ n. is_at p (row_at (rows ++ row ∷ []) n)) e ∙ ap (is_at p) (row_end rows row) ∙ never
 ]
 last_stays rows row p (Some k) never (l, holds, after) = (
   omega (arith, length-append rows (row ∷ [])),
   ap (is_at p) (row_low rows row k l) ∙ holds,
-  λ j kj jl. elim (below_or_end j (length rows) (omega (arith, length-append rows (row ∷ [])))) [
+  λ j kj jl. elim (below_or_last j (length rows) (omega (arith, length-append rows (row ∷ [])))) [
     | inl m ↦ ap (is_at p) (row_low rows row j m) ∙ after j kj m
     | inr e ↦ ap (λ n. is_at p (row_at (rows ++ row ∷ []) n)) e ∙ ap (is_at p) (row_end rows row) ∙ never
   ],
@@ -55,7 +53,7 @@ before_more : (rows : List Row) (row : Row) (before : List (Option ℕ)) (o : Op
     → ((k p : ℕ) → k < length rows → is_at p (row_at rows k) ≡ true → IsLastAt (take k rows) p (entry before k))
     → ((p : ℕ) → is_at p row ≡ true → IsLastAt rows p o)
     → (k p : ℕ) → k < length (rows ++ row ∷ []) → is_at p (row_at (rows ++ row ∷ []) k) ≡ true → IsLastAt (take k (rows ++ row ∷ [])) p (entry (before ++ o ∷ []) k)
-before_more rows row before o count old new k p l holds = elim (below_or_end k (length rows) (omega (arith, length-append rows (row ∷ [])))) [
+before_more rows row before o count old new k p l holds = elim (below_or_last k (length rows) (omega (arith, length-append rows (row ∷ [])))) [
   | inl m ↦
       let bm : k < length before = omega arith in
       let e : take k (rows ++ row ∷ []) ≡ take k rows = take-append-le k rows (row ∷ []) (omega arith) in

@@ -1,12 +1,11 @@
 -- What Cross and Cap rows take off, as a list in order of pairs.
-use Rattle.std.proofs.Common.{◌≡◌, ◌≢◌, ℕ, zero, suc, ◌+◌, ◌*◌, ◌<◌, ◌≤◌, inl, inr, List, [], ◌∷◌, ◌++◌, length, get_or, take, drop, Bool, true, false, cond, sym, ◌∙◌, ap, ap₂, subst, refl, arith}
+use Rattle.std.proofs.Common.{◌≡◌, ℕ, zero, suc, ◌+◌, ◌*◌, ◌<◌, ◌≤◌, inl, inr, List, [], ◌∷◌, ◌++◌, length, get_or, take, Bool, true, false, cond, sym, ◌∙◌, ap, ap₂, refl, arith}
 use Rattle.std.specs.Prelude.{◌||◌}
-use Rattle.std.specs.List.{All, sum_by}
-use Rattle.std.specs.List.Sorted.{IsNonDecreasingBy, IsPermutation}
+use Rattle.std.specs.List.{sum_by}
+use Rattle.std.specs.List.Sorted.{IsNonDecreasingBy}
 use Rattle.std.proofs.lemmas.Bool.{cases_lt, false≢true}
 use Rattle.std.proofs.Math.Seq.{take-length}
-use Rattle.std.proofs.lemmas.List.Sums.{sum_by-cons, sum_by-append, sum_by_more, sum_by-le, sum_by-take-drop, sum_by-take-le, sum_by-le-sum_by}
-use Rattle.std.proofs.lemmas.List.Sorted.{sum_by-IsPermutation}
+use Rattle.std.proofs.lemmas.List.Sums.{sum_by-append, sum_by_more, sum_by-le, sum_by-take-le, sum_by-le-sum_by}
 use Rattle.plane.specs.declared.segment.Pair.{Pair}
 use Rattle.partition_defs.specs.Partition.{HasEnds}
 use Rattle.cost_defs.specs.Costs.{has_ends}
@@ -18,6 +17,7 @@ use Rattle.price_defs.specs.Loads.{lessened, takes}
 use Rattle.plane.proofs.laws.Pairs.{pair_same}
 use Rattle.price_defs.proofs.laws.Tests.{has_ends_decides, same_pair, same_pair_decides}
 use Rattle.point_rows.specs.Takers.{key_of, taken, takings, all_taken}
+use Rattle.number_laws.proofs.ListSums.{cond_le}
 
 -- terms that are 0 add nothing
 pub sum-flat_between : {X : Type 0} (f : X → ℕ) (xs : List X) (d : X) (m n : ℕ) → m ≤ n → n ≤ length xs → ((k : ℕ) → m ≤ k → k < n → f (get_or xs k d) ≡ 0)
@@ -116,10 +116,6 @@ all_more list rows k row is l h =
 
 pub all_small : (rows : List Row) → length rows ≤ 200000 → AreLight rows → 2 * sum_by weight rows ≤ 400000000000000000
 all_small rows few light = let b : sum_by weight rows ≤ length rows * 1000000000000 = sum_by-le weight 1000000000000 rows light in omega arith
-
-cond_le : (b : Bool) (w : ℕ) → cond b w 0 ≤ w
-cond_le true w = omega arith
-cond_le false w = omega arith
 
 -- a part of a sum for one pair is at most all
 pub part_small : (e : Pair) (list : List (Pair × ℕ)) (k : ℕ) → sum_by (of_pair e) (take k list) ≤ all_taken list

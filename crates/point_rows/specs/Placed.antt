@@ -1,10 +1,9 @@
 -- The rows of a certificate by the points at which they stand.
-use Rattle.std.specs.Prelude.{◌≡◌, ℕ, ◌+◌, ◌<◌, ◌≤◌, List, length, take, set, slice_index_or, Option, Some, None, Bool, true, false, cond, nat_eq}
+use Rattle.std.specs.Prelude.{◌≡◌, ℕ, ◌+◌, ◌<◌, ◌≤◌, List, length, take, set, slice_index_or, Option, Some, None, true, false, cond}
 use Rattle.std.specs.List.{sum_by}
 use Rattle.plane.specs.declared.coordinates.Point.{Point}
 use Rattle.plane.specs.declared.segment.Pair.{Pair}
 use Rattle.price_defs.specs.declared.row.Row.{Row}
-use Rattle.price_defs.specs.declared.row.Row.TheVariants.{Half, Three, Cross, Cap}
 use Rattle.price_defs.specs.declared.row.TheConstants.{MOST_ROWS}
 use Rattle.price_defs.specs.Rows.{AreRight, is_at, row_at}
 use Rattle.price_defs.specs.Limits.{AreLight}

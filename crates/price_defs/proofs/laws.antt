@@ -1,8 +1,8 @@
-pub mod Sums
 pub mod Tests
-pub mod Sides
+pub mod Three
 pub mod Counted
 pub mod Duality
-pub mod Nearest
+pub mod Counting
 pub mod Values
 pub mod Alone
+pub mod Reweighed

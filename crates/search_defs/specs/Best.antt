@@ -3,7 +3,6 @@ use Rattle.std.specs.Prelude.{◌≡◌, ℕ, ◌+◌, ◌<◌, ◌≤◌, List,
 use Rattle.std.specs.List.{IsFirstMaxByKey}
 use Rattle.plane.specs.declared.coordinates.Point.{Point}
 use Rattle.cost_defs.specs.Costs.{Costed}
-use Rattle.price_defs.specs.declared.row.Row.{Row}
 use Rattle.price_defs.specs.declared.row.Certificate.{Certificate}
 use Rattle.price_defs.specs.Loads.{value}
 use Rattle.price_defs.specs.Floor.{IsInnerList}

@@ -14,7 +14,8 @@ pub fn solution_reads_back(name: &Name, pairs: &[Pair], n: u32)
     requires few { length pairs.now ≤ 20000 }
     requires below { All (λ e. e.hi < n) pairs.now }
     ensures read { edges_from n (solution_text name.now (map ends pairs.now)) ≡ Ok (map ends pairs.now) }
-    ensures once { (other : List Pair) → edges_from n (solution_text name.now (map ends pairs.now)) ≡ Ok (map ends other) → other ≡ pairs.now }
+    ensures once { (other : List Pair)
+        → edges_from n (solution_text name.now (map ends pairs.now)) ≡ Ok (map ends other) → other ≡ pairs.now }
 {
     let _name = name.as_str();
 }

@@ -15,10 +15,6 @@ pub if_ok_three : {A E : Type 0} (r : Result A E) (P R T : A → Type 0) (Q : Ty
 if_ok_three (Ok x) P R T Q h k l f = f x h k l
 if_ok_three (Err e) P R T Q h k l f = tt
 
-pub true_or_false : (b : Bool) → (b ≡ true) ⊎ (b ≡ false)
-true_or_false true = inl refl
-true_or_false false = inr refl
-
 pub if_some_at : {A : Type 0} (o : Option A) (x : A) (P : A → Type 0) → o ≡ Some x → IfSome o P → P x
 if_some_at None x P e h = absurd (cc)
 if_some_at (Some y) x P e h = let same : y ≡ x = cc in subst P same h

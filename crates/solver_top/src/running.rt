@@ -1,5 +1,6 @@
 // The run of the program, in phases: words, input, work, text, write.
-ghost use Rattle.std.specs.Prelude.{◌≡◌, ◌≢◌, ◌≤◌, ◌<◌, ◌+◌, ◌⊎◌, ℕ, List, [], length, codes, true, false, Some, IsOk, IfOk, IfErr, IsErrOf};
+ghost use Rattle.std.specs.Prelude.{◌≡◌, ◌≢◌, ◌≤◌, ◌<◌, ◌+◌, ◌⊎◌, ℕ, List, [], length, codes, true, false, Some, IsOk};
+ghost use Rattle.std.specs.Prelude.{IfOk, IfErr, IsErrOf};
 ghost use Rattle.std.specs.Io.KnownBytes.{Appends};
 ghost use Rattle.mcp_outside.specs.Causes.{Rose};
 ghost use Rattle.mcp_outside.specs.Bytes.{AppendsPrefix, Took};
@@ -12,7 +13,8 @@ ghost use Rattle.solver_top.specs.Words.{words_of, IsLineOf, IsNoLine};
 ghost use Rattle.solver_top.specs.Bundles.{HasBundle};
 ghost use Rattle.solver_top.specs.Lines.{usage_line, judgement_line};
 ghost use Rattle.solver_top.specs.Statuses.{status_of, HasText, IsWritten};
-ghost use Rattle.solver_top.specs.Answers.{IsAnswer, IsAnswerOf, IsAnswerTo, ReadsAll, IsUsageText, IsInRange, HasInput, reads_input, most_input};
+ghost use Rattle.solver_top.specs.Answers.{IsAnswer, IsAnswerOf, IsAnswerTo, ReadsAll, IsUsageText, IsInRange};
+ghost use Rattle.solver_top.specs.Answers.{HasInput, reads_input, most_input};
 ghost use Rattle.solver_top.specs.Judging.{IsJudged};
 ghost use Rattle.solver_top.specs.Starting.{IsStarted};
 ghost use Rattle.solver_top.specs.Generating.{IsGenerated};

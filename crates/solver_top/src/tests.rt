@@ -13,7 +13,8 @@ const SQUARE_WITH_A_FRACTION: &str =
     r#"{"instance":{"name":"sq","points":[{"x":0,"y":0},{"x":0,"y":4.0},{"x":4,"y":0},{"x":4,"y":4}]},"solution":{"edges":["#;
 
 const SQUARE_WITH_COSTS: &str =
-    r#"{"instance":{"costs":[[0,3,0],[2,1,1000]],"name":"sq","points":[{"x":0,"y":0},{"x":0,"y":4},{"x":4,"y":0},{"x":4,"y":4}]},"solution":{"edges":["#;
+    r#"{"instance":{"costs":[[0,3,0],[2,1,1000]],
+"name":"sq","points":[{"x":0,"y":0},{"x":0,"y":4},{"x":4,"y":0},{"x":4,"y":4}]},"solution":{"edges":["#;
 
 const SAME_PLACE: &str =
     r#"{"instance":{"name":"sq","points":[{"x":0,"y":0},{"x":0,"y":4},{"x":4,"y":0},{"x":0,"y":0}]},"solution":{"edges":["#;
@@ -215,7 +216,8 @@ fn reads_its_words(rt: HostRuntime) -> Result<(), Fail> {
         (
             "gen wide 3 1",
             Status::Done,
-            "{\"name\":\"wide-3-1\",\"points\":[{\"i\":0,\"x\":0,\"y\":0},{\"i\":1,\"x\":1099511627776,\"y\":68719476736},{\"i\":2,\"x\":2199023255552,\"y\":274877906944}]}\n",
+            "{\"name\":\"wide-3-1\",\"points\":[{\"i\":0,\"x\":0,\"y\":0},\
+              {\"i\":1,\"x\":1099511627776,\"y\":68719476736},{\"i\":2,\"x\":2199023255552,\"y\":274877906944}]}\n",
         ),
         (
             "gen ring 3 5",
@@ -260,7 +262,8 @@ fn starts_small_instances(rt: HostRuntime) -> Result<(), Fail> {
         (
             "0,0 0,4 4,0 4,4",
             Status::Done,
-            "{\"edges\":[{\"i\":0,\"j\":1},{\"i\":0,\"j\":2},{\"i\":1,\"j\":2},{\"i\":1,\"j\":3},{\"i\":2,\"j\":3}],\"instance_name\":\"w\",\"type\":\"Solution\"}\n",
+            "{\"edges\":[{\"i\":0,\"j\":1},{\"i\":0,\"j\":2},{\"i\":1,\"j\":2},{\"i\":1,\"j\":3},\
+              {\"i\":2,\"j\":3}],\"instance_name\":\"w\",\"type\":\"Solution\"}\n",
         ),
         (
             "0,0 1,1 2,2 3,3 4,4",

@@ -1,16 +1,17 @@
 -- What it means for a direction to be at most straight ahead of another, by halves and areas.
-use Rattle.std.proofs.Common.{◌≡◌, ◌≢◌, ℤ, pos, ◌+ℤ◌, ◌-ℤ◌, ◌*ℤ◌, neg_ℤ, ◌<ℤ◌, ◌≤ℤ◌, ◌⊎◌, inl, inr, arith}
+use Rattle.std.proofs.Common.{◌≡◌, ◌≢◌, ℤ, pos, ◌-ℤ◌, ◌*ℤ◌, neg_ℤ, ◌<ℤ◌, ◌≤ℤ◌, ◌⊎◌, inl, inr, arith}
 use Rattle.std.proofs.lemmas.Int.{ints}
 use Rattle.std.proofs.Math.IntN.{*ℤ_comm}
 use Rattle.plane.specs.declared.coordinates.Point.{Point}
 use Rattle.plane.specs.Geometry.{area, scalar, LiesBetween}
-use Rattle.number_laws.proofs.Products.{mul_neg, neg_mul}
+use Rattle.number_laws.proofs.Products.{mul_neg}
 use Rattle.number_laws.proofs.Signs.{cancel_strict, negative_or, positive_positive, negative_positive, negative_negative, zero_left, zero_right}
 use Rattle.plane.proofs.laws.Area.{area_back}
 use Rattle.plane_laws.proofs.Steps.{turn_first, turn_last, turn_weak}
 use Rattle.star.specs.Turn.{IsUpper, IsLower, AreInOneHalf}
 use Rattle.number_laws.proofs.Crosses.{cross, cross_neg, neg_cross, neg_neg}
 use Rattle.star.proofs.laws.Turning.{Up, up, down, upper_or_lower}
+use Rattle.plane_laws.proofs.Between.{dot, neg_dot, scalar_is_dot, area_is_cross}
 
 -- within the upper half, turning left twice is turning left, where one of the two may be no turn
 pub left_then : (ux uy vx vy wx wy : ℤ) → Up ux uy → Up vx vy → Up wx wy → pos 0 ≤ℤ cross ux uy vx vy → pos 0 <ℤ cross vx vy wx wy → pos 0 <ℤ cross ux uy wx wy
@@ -30,9 +31,6 @@ weak_then ux uy vx vy wx wy hu hv hw uv vw =
     let a = *ℤ_comm ux vy in let b = *ℤ_comm uy vx in let c = *ℤ_comm vx wy in let d = *ℤ_comm vy wx in let e = *ℤ_comm ux wy in let f = *ℤ_comm uy wx in
     let t = turn_weak wy wx vy vx uy ux hw hv hu (omega (arith, ints)) (omega (arith, ints)) in
     omega (arith, ints)
-
-pub dot : (ux uy wx wy : ℤ) → ℤ
-dot ux uy wx wy = ux *ℤ wx +ℤ uy *ℤ wy
 
 negative_factor : (a b : ℤ) → pos 0 <ℤ a → (a *ℤ b) <ℤ pos 0 → b <ℤ pos 0
 negative_factor a b ha h = elim (negative_or b) [
@@ -59,18 +57,6 @@ dot_up ux uy wx wy (inr hu) (inr hw) h = let a = zero_left uy wy hu.0 in let b =
 dot_neg : (ux uy wx wy : ℤ) → dot ux uy (neg_ℤ wx) (neg_ℤ wy) ≡ neg_ℤ (dot ux uy wx wy)
 unfolding dot
 dot_neg ux uy wx wy = let a = mul_neg ux wx in let b = mul_neg uy wy in omega (arith, ints)
-
-neg_dot : (ux uy wx wy : ℤ) → dot (neg_ℤ ux) (neg_ℤ uy) wx wy ≡ neg_ℤ (dot ux uy wx wy)
-unfolding dot
-neg_dot ux uy wx wy = let a = neg_mul ux wx in let b = neg_mul uy wy in omega (arith, ints)
-
-scalar_is_dot : (p q r : Point) → scalar p q r ≡ dot (q.x -ℤ p.x) (q.y -ℤ p.y) (r.x -ℤ p.x) (r.y -ℤ p.y)
-unfolding scalar dot
-scalar_is_dot p q r = omega (arith, ints)
-
-area_is_cross : (p q r : Point) → area p q r ≡ cross (q.x -ℤ p.x) (q.y -ℤ p.y) (r.x -ℤ p.x) (r.y -ℤ p.y)
-unfolding area
-area_is_cross p q r = omega (arith, ints)
 
 -- the two directions are in the two halves
 abbrev pub AreInTwoHalves : (c q r : Point) → Type 0

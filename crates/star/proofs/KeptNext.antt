@@ -7,7 +7,7 @@ use Rattle.star.specs.declared.links.Link.{Link}
 use Rattle.star.specs.Links.{link, HasRightLinks, IsAfterOrNone, IsFirstKeptOrNone}
 use Rattle.star.specs.Gaps.{IsKept, ComesSooner, IsKeptAfter}
 use Rattle.star.proofs.Listed.{all_round}
-use Rattle.number_laws.proofs.Truth.{false_of_not}
+use Rattle.std.proofs.lemmas.Bool.{false_from_ne_true}
 
 -- a step round a list comes to a position on this side of the start or on the other
 abbrev Steps : (n k e x : ℕ) → Type 0
@@ -44,7 +44,7 @@ first_kept_of_after s k j hk after =
         let sx : Steps n k e x = steps n k e hk (omega arith) in
         let sj : Steps n k d j = subst (λ z. Steps n k d z) at (steps n k d hk hd) in
         let (xk, xj, no_way) = not_after n k e d x j hk he hd sx sj in
-        false_of_not (entry s.list x).1 (λ t. no_way (after.first x (around_within n k e x hk (omega arith) sx, t) xk xj))
+        false_from_ne_true (entry s.list x).1 (λ t. no_way (after.first x (around_within n k e x hk (omega arith) sx, t) xk xj))
 
 -- the kept neighbour after a kept one is that which its link names
 pub first_kept_named : (s : Seen) (S : List Point) (c : ℕ) (list : List (ℕ × Bool)) (links : List Link) (misses : Bool) (k : ℕ) → list ≡ s.list → HasRightLinks S c list links misses → IsKept s.list k → (l : Link) → l ≡ link links k → IsFirstKept s k l.after
@@ -55,4 +55,4 @@ first_kept_named s S c list links misses k e right kk l is =
 
 -- where no other than an unmarked one is kept, none is
 pub none_kept : (s : Seen) (k : ℕ) → (entry s.list k).1 ≡ false → IsAfterOrNone s.list k None → IsFirstKeptOrNone s k None
-none_kept s k spare none = λ j hj. false_of_not (entry s.list j).1 (λ t. false≢true (sym spare ∙ ap (λ i. (entry s.list i).1) (sym (none j (hj, t))) ∙ t))
+none_kept s k spare none = λ j hj. false_from_ne_true (entry s.list j).1 (λ t. false≢true (sym spare ∙ ap (λ i. (entry s.list i).1) (sym (none j (hj, t))) ∙ t))

@@ -10,15 +10,13 @@ use Rattle.subdivision.specs.Listing.{picks, IsTidy, IsPicked, HasRow, HasRows, 
 use Rattle.plane.proofs.laws.Pairs.{pair_same}
 use Rattle.partition_defs.proofs.laws.Has.{has_of, contains_of, has_at, has_append, append_has}
 use Rattle.subdivision.proofs.Members.{neighbour_of, has_neighbour, mark_of, has_mark}
+use Rattle.number_laws.proofs.Naturals.{below_or_last}
 
 contains_more : (list : List Pair) (p e : Pair) → Contains (list ++ p ∷ []) e ↔ (Contains list e ⊎ (p ≡ e))
 contains_more list p e = (
   λ h. elim (has_append list (p ∷ []) e (has_of (list ++ p ∷ []) e h)) [ inl k ↦ inl (contains_of list e k) | inr k ↦ elim k [ inl same ↦ inr same | inr none ↦ absurd none ] ],
   λ h. contains_of (list ++ p ∷ []) e (append_has list (p ∷ []) e (elim h [ inl k ↦ inl (has_of list e k) | inr k ↦ inr (inl k) ])),
 )
-
-below_next : (j k : ℕ) → j < k + 1 → (j < k) ⊎ (j ≡ k)
-below_next j k h = grind arith
 
 pub row_begins : (ko : Bool) (old : List Pair) (v : ℕ) (s : Seen) → AllPairs (λ e f. e ≢ f) old → HasRow ko old old v s 0
 row_begins ko old v s distinct = record {
@@ -45,7 +43,7 @@ row_step ko old list new v s k w kept wanted n so none tidy hk at means (inl (ri
         ],
         λ h. subst (λ xs. Contains xs e) (sym is) ((contains_more list p e).1 (elim h [
           | inl o ↦ inl ((so.members e).1 (inl o))
-          | inr o ↦ (let (j, low, inside, name, mark) = o.1 in elim (below_next j k low) [
+          | inr o ↦ (let (j, low, inside, name, mark) = o.1 in elim (below_or_last j k low) [
             | inl less ↦ inl ((so.members e).1 (inr (o.0, (j, less, inside, name, mark))))
             | inr same ↦ inr (pair_same p e (lo ∙ sym o.0) (hi ∙ sym (ap (λ (x : ℕ × Bool). x.0) at) ∙ sym (ap (λ i. (entry s.list i).0) same) ∙ name))
           ])
@@ -58,7 +56,7 @@ row_step ko old list new v s k w kept wanted n so none tidy hk at means (inr (no
     λ h. elim ((so.members e).0 (subst (λ xs. Contains xs e) is h)) [ inl o ↦ inl o | inr o ↦ inr (o.0, (let (j, low, rest, name, mark) = o.1 in (j, omega arith, rest, name, mark))) ],
     λ h. subst (λ xs. Contains xs e) (sym is) ((so.members e).1 (elim h [
       | inl o ↦ inl o
-      | inr o ↦ (let (j, low, inside, name, mark) = o.1 in elim (below_next j k low) [
+      | inr o ↦ (let (j, low, inside, name, mark) = o.1 in elim (below_or_last j k low) [
         | inl less ↦ inr (o.0, (j, less, inside, name, mark))
         | inr same ↦ absurd (not (out e o.0 (sym (ap (λ (x : ℕ × Bool). x.0) at) ∙ sym (ap (λ i. (entry s.list i).0) same) ∙ name), means.1 (λ t. sym (ap (λ (x : ℕ × Bool). x.1) at) ∙ sym (ap (λ i. (entry s.list i).1) same) ∙ mark t)))
       ])
@@ -97,7 +95,7 @@ rows_more ko stars list new v s so hv is row = record {
             subst P (sym k.0) (subst (λ (t : Seen). picks ko t e.hi ≡ true) is ((picked_test ko s e.hi).0 k.1))),
       )
     ],
-    λ h. (row.members e).1 (elim (below_next e.lo v h.0) [
+    λ h. (row.members e).1 (elim (below_or_last e.lo v h.0) [
       | inl low ↦ inl ((so.members e).1 (low, h.1, h.2))
       | inr at ↦ inr (at, (picked_test ko s e.hi).1 (subst (λ (t : Seen). picks ko t e.hi ≡ true) (sym is) (let P : ℕ → Type 0 = λ x. picks ko (star_at stars x) e.hi ≡ true in subst P at h.2)))
     ]),

@@ -9,7 +9,6 @@ use Rattle.plane.specs.Geometry.{point, IsBetween}
 use Rattle.plane.specs.Accepted.{AreAccepted}
 use Rattle.plane.proofs.laws.Along.{between_swap, one_between}
 use Rattle.plane.proofs.laws.Border.{points_differ}
-use Rattle.plane.proofs.laws.Pairs.{pair_same}
 use Rattle.partition_defs.specs.Partition.{HasEnds, Joins}
 use Rattle.partition_defs.specs.Triangulation.{IsTriangulation, AreDistinct}
 use Rattle.star.specs.Turn.{IsInDirection}
@@ -23,6 +22,7 @@ use Rattle.subdivision.specs.Joining.{GainsKept, GainsKeptEnds}
 use Rattle.partition_defs.proofs.laws.Has.{Has, has_of, contains_of, has_append, append_has}
 use Rattle.partition_defs.proofs.laws.Joined.{joined, joins_of}
 use Rattle.star.proofs.laws.Marks.{marked_neighbour}
+use Rattle.partition_defs.proofs.laws.Joined.{one_pair}
 
 same_list_neighbour : (old mid : Seen) → mid.list ≡ old.list → (u : ℕ) → IsNeighbour mid u ↔ IsNeighbour old u
 same_list_neighbour old mid e u =
@@ -71,17 +71,11 @@ place_free S pairs k d a b s accepted distinct tri hk ends so i hi together =
     let here : get_or pairs j f ≡ f = sym (get_or-take k pairs j f low) ∙ at in
     let e_in = has_of pairs e (k, hk, get_or_default pairs k e d hk) in
     let f_in = has_of pairs f (j, omega arith, here) in
-    let other : u ≢ b = λ same. distinct j k f low hk (here ∙ one f e a b (subst (HasEnds f a) same sides) ends ∙ get_or_default pairs k d f hk) in
+    let other : u ≢ b = λ same. distinct j k f low hk (here ∙ one_pair f e a b (subst (HasEnds f a) same sides) ends ∙ get_or_default pairs k d f hk) in
     let P : List Point → Type 0 = λ T. IsInDirection T s.centre u b in
     let Q : ℕ → Type 0 = λ c. IsInDirection S c u b in
     clash e f e_in f_in sides other (subst Q so.centre (subst P so.points together))
   where
-    one : (f e : Pair) (a b : ℕ) → HasEnds f a b → HasEnds e a b → f ≡ e
-    one f e a b (inl x) (inl y) = pair_same f e (x.0 ∙ sym y.0) (x.1 ∙ sym y.1)
-    one f e a b (inl x) (inr y) = absurd (omega (arith, x.0, x.1, y.0, y.1, e.ordered, f.ordered))
-    one f e a b (inr x) (inl y) = absurd (omega (arith, x.0, x.1, y.0, y.1, e.ordered, f.ordered))
-    one f e a b (inr x) (inr y) = pair_same f e (x.0 ∙ sym y.0) (x.1 ∙ sym y.1)
-
     within : (e : Pair) (x y : ℕ) → Has e pairs → HasEnds e x y → (x < length S) × (y < length S) × (x ≢ y)
     within e x y m (inl h) = let t = tri.within e (contains_of pairs e m) in (omega (arith, h.0, e.ordered), omega (arith, h.1), λ z. omega (arith, h.0, h.1, e.ordered))
     within e x y m (inr h) = let t = tri.within e (contains_of pairs e m) in (omega (arith, h.1), omega (arith, h.0, e.ordered), λ z. omega (arith, h.0, h.1, e.ordered))

@@ -3,7 +3,7 @@ use Rattle.std.proofs.Common.{◌≡◌, ℕ, ◌<◌, Bool, true, false, ◌&&�
 use Rattle.std.proofs.lemmas.Bool.Decides.{Decides-eqb}
 use Rattle.std.proofs.lemmas.List.{get_or_default}
 use Rattle.std.proofs.lemmas.List.Folds.{Any-from_list_any, list_any_at}
-use Rattle.number_laws.proofs.Truth.{and_true, true_and}
+use Rattle.std.proofs.lemmas.Bool.{and_parts, and_from}
 use Rattle.plane.specs.declared.coordinates.Point.{Point}
 use Rattle.plane.specs.declared.segment.Pair.{Pair}
 use Rattle.partition_defs.specs.Triangulation.{IsTriangulation}
@@ -29,14 +29,14 @@ has_neighbour s w (k, (h, at)) = list_any_at (λ (e : ℕ × Bool). nat_eq e.0 w
 pub mark_of : (s : Seen) (w : ℕ) → keeps s w ≡ true → HasMark s w true
 mark_of s w t =
     let (k, e, h, at, same) = Any-from_list_any (λ (e : ℕ × Bool). nat_eq e.0 w && e.1) s.list t in
-    let both = and_true (nat_eq e.0 w) e.1 same in
+    let both = and_parts (nat_eq e.0 w) e.1 same in
     let name : e.0 ≡ w = (Decides-eqb e.0 w).0 both.0 in
     (k, h, get_or_default s.list k (0, false) e h ∙ at ∙ (ap (λ (n : ℕ). let p : ℕ × Bool = (n, e.1) in p) name ∙ ap (λ (b : Bool). let p : ℕ × Bool = (w, b) in p) both.1))
 
 pub has_mark : (s : Seen) (w : ℕ) → HasMark s w true → keeps s w ≡ true
 has_mark s w (k, h, at) =
     list_any_at (λ (e : ℕ × Bool). nat_eq e.0 w && e.1) s.list k (0, false) h
-    (true_and (nat_eq (entry s.list k).0 w) (entry s.list k).1 ((Decides-eqb (entry s.list k).0 w).1 (ap (λ (p : ℕ × Bool). p.0) at)) (ap (λ (p : ℕ × Bool). p.1) at))
+    (and_from (nat_eq (entry s.list k).0 w) (entry s.list k).1 ((Decides-eqb (entry s.list k).0 w).1 (ap (λ (p : ℕ × Bool). p.0) at)) (ap (λ (p : ℕ × Bool). p.1) at))
 
 pub chosen : (p : Pair → Bool) (n : ℕ) (e : Pair) → Has e (filter p (every_pair n)) → (e.hi < n) × (p e ≡ true)
 chosen p n e h = let r = has_filter p (every_pair n) e h in let s = has_rows 0 n e r.0 in (omega (arith, s.1), r.1)

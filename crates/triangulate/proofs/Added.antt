@@ -14,7 +14,8 @@ use Rattle.triangulate.specs.Swept.{opposite, turn, other_turn, AreJoining, IsJo
 use Rattle.triangulate.proofs.Field.{Setting, up_to_not_before}
 use Rattle.triangulate.proofs.Moves.{start, turned, finish}
 use Rattle.triangulate.proofs.Places.{sweep_setting, plane_laws, opposite_laws, opposite_turned}
-use Rattle.triangulate.proofs.Joined.{ends_of_new, push_adds, push_distinct, part_laws, part_turned}
+use Rattle.triangulate.proofs.Joined.{push_adds, push_distinct, part_laws, part_turned}
+use Rattle.partition_defs.proofs.laws.Joined.{ends_of_new}
 
 links_in : (n : ℕ) (t : ℕ) (r : List ℕ) → t < n → ((a b : ℕ) → Links t r a b → a < n) → All (λ i. i < n) (t ∷ r)
 links_in n t [] h f = All-cons (λ i. i < n) t [] h (All-nil (λ i. i < n))

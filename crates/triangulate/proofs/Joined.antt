@@ -4,7 +4,6 @@ use Rattle.std.specs.Prelude.{◌<ℤ◌}
 use Rattle.std.specs.List.{All}
 use Rattle.std.proofs.lemmas.List.Elements.{All-tail, Contains-append_left, Contains-push, Contains-push_cases, Contains-get_or}
 use Rattle.std.proofs.lemmas.List.Quantifiers.{all_pairs_push}
-use Rattle.std.proofs.lemmas.Bool.{cases_order}
 use Rattle.plane.specs.declared.coordinates.Point.{Point}
 use Rattle.plane.specs.declared.segment.Pair.{Pair}
 use Rattle.plane.specs.Geometry.{orientation}
@@ -22,14 +21,7 @@ use Rattle.triangulate.proofs.State.{Adds}
 use Rattle.triangulate.proofs.Step.{step}
 use Rattle.triangulate.proofs.Moves.{unjoined}
 use Rattle.triangulate.proofs.Places.{sweep_setting, plane_laws, opposite_laws, opposite_turned}
-use Rattle.partition_defs.proofs.laws.Joined.{ends_back, joins_pair, joins_from}
-
--- a pair made of two points has these ends
-pub ends_of_new : (e : Pair) (a z : ℕ) → e.lo ≡ min a z → e.hi ≡ max a z → HasEnds e a z
-ends_of_new e a z hl hh = elim (cases_order a z) [
-  | inl f ↦ inl (omega arith, omega arith)
-  | inr q ↦ elim q [ inl f ↦ inl (omega arith, omega arith) | inr f ↦ inr (omega arith, omega arith) ]
-]
+use Rattle.partition_defs.proofs.laws.Joined.{ends_back, ends_of_new, joins_pair, joins_from}
 
 same_ends : (e : Pair) (a z p q : ℕ) → HasEnds e a z → HasEnds e p q → ((p ≡ a) × (q ≡ z)) ⊎ ((p ≡ z) × (q ≡ a))
 same_ends e a z p q (inl g) (inl h) = inl (sym h.0 ∙ g.0, sym h.1 ∙ g.1)

@@ -6,13 +6,14 @@ use Rattle.triangulate.proofs.Field.{Setting, Laws, AreTurned, by_place, up_to_b
 use Rattle.triangulate.proofs.Turns.{beyond_side}
 use Rattle.triangulate.proofs.Sides.{settled_before, settled_side}
 use Rattle.triangulate.proofs.State.{Adds}
-use Rattle.triangulate.proofs.Step.{at, chain_more, apex_more, pairs_add, sweeps_new, at_zero, met_more}
+use Rattle.triangulate.proofs.Step.{at, chain_more, apex_more, pairs_add, sweeps_new, met_more}
 use Rattle.triangulate.proofs.Wedge.{aside, no_low}
 use Rattle.triangulate.specs.Sides.{UpTo, AllLeft, Clear, Beyond, Cross}
 use Rattle.triangulate.specs.State.{Links, Side, Covered, Chain, Reach, Sweeps, Apex, Pairs, Met, From, Joining, Whole, Settled}
 use Rattle.plane.proofs.laws.Opposite.{opposite_neg}
 use Rattle.number_laws.proofs.Signs.{weak_of_positive}
 use Rattle.number_laws.proofs.Signs.{zero_of_neg}
+use Rattle.number_laws.proofs.Signs.{weak_of_zero}
 
 back_turned : (x y : ℤ) → y ≡ neg_ℤ x → x ≡ neg_ℤ y
 back_turned x y e = omega (arith, ints)
@@ -174,7 +175,7 @@ start E o w L M tr J J2 r r2 z last m zn hlz next add =
       fresh = λ s j. elim (add.only s z j) [
         | inl k ↦ up_to_not_before E z last (m.pairs.up_to z s (m.pairs.back s z k)) hlz
         | inr k ↦ elim k [
-          | inl e ↦ inl (at (λ x y. From E.B o last x z last) last z s z e.0 refl (record { from = inl refl; side = at_zero (o last z last) (zero_ends E o L last z) }))
+          | inl e ↦ inl (at (λ x y. From E.B o last x z last) last z s z e.0 refl (record { from = inl refl; side = weak_of_zero (o last z last) (zero_ends E o L last z) }))
           | inr e ↦ absurd (E.irrefl z (subst (λ x. E.B x z) (sym e.1) hlz))
         ]
       ];
@@ -195,11 +196,11 @@ closing E o L J t (a ∷ r) z c h s sn hst =
 
 closing_left : (E : Setting) (o : ℕ → ℕ → ℕ → ℤ) → Laws E o → (J : ℕ → ℕ → Type 0) (t : ℕ) (r : List ℕ) (z : ℕ) → z < E.n → Reach E.n E.B o J t r z → Settled o t r z
     → AllLeft E.n E.B o (λ s. UpTo E.B s z) t z
-closing_left E o L J t r z zn c h s sn (inl e) = subst (λ x. pos 0 ≤ℤ o t z x) (sym e) (at_zero (o t z z) (zero_last E o L t z))
+closing_left E o L J t r z zn c h s sn (inl e) = subst (λ x. pos 0 ≤ℤ o t z x) (sym e) (weak_of_zero (o t z z) (zero_last E o L t z))
 closing_left E o L J t r z zn c h s sn (inr g) =
     by_place E s t sn c.top_in
     (λ p. closing E o L J t r z c h s sn p)
-    (λ e. subst (λ x. pos 0 ≤ℤ o t z x) (sym e) (at_zero (o t z t) (zero_ends E o L t z)))
+    (λ e. subst (λ x. pos 0 ≤ℤ o t z x) (sym e) (weak_of_zero (o t z t) (zero_ends E o L t z)))
     (λ p. weak_of_positive (o t z s) (c.beyond s sn p g))
 
 older_left : (E : Setting) (o : ℕ → ℕ → ℕ → ℤ) → Laws E o → (J : ℕ → ℕ → Type 0) (t : ℕ) (r : List ℕ) (z : ℕ) → Reach E.n E.B o J t r z → Settled o t r z

@@ -6,8 +6,9 @@ use Rattle.plane_laws.specs.Order.{AreInOrder}
 use Rattle.number_laws.proofs.Signs.{zero_of_neg, negative_or}
 use Rattle.triangulate.proofs.Signs.{second_rises, third_rises, last_rises}
 use Rattle.triangulate.proofs.Field.{Setting, Laws, flip, by_place}
-use Rattle.triangulate.proofs.Turns.{not_positive, same_weak}
+use Rattle.triangulate.proofs.Turns.{not_positive}
 use Rattle.triangulate.specs.Sides.{UpTo, AllLeft, Clear, Empty}
+use Rattle.number_laws.proofs.Signs.{weak_same}
 
 pub empty_next : (E : Setting) (o : ℕ → ℕ → ℕ → ℤ) (p q r : ℕ) → Empty E.n E.B o p q r → Empty E.n E.B o q r p
 empty_next E o p q r h = record { none = λ s sn a b c g. h.none s sn c a b (g.2, g.0, g.1) }
@@ -35,13 +36,13 @@ empty_side E o L a b z an bn zn hab hbz left clear h = record {
       let flat : o a b s ≡ pos 0 = zero_between (o a b s) (o b a s) (L.swap a b s) (left s sn hsz) g.0 in
       by_place E s a sn an
       (λ hsa. before_all (o s a b) (o s a z) (o s b z) (o a b z) (L.order s a b z hsa hab hbz)
-      (sym (L.cycle s a b) ∙ flat) h (same_weak (o a z s) (o s a z) (L.cycle s a z) g.1))
+      (sym (L.cycle s a b) ∙ flat) h (weak_same (o a z s) (o s a z) (L.cycle s a z) g.1))
       (λ e. na e)
       (λ has. by_place E s b sn bn
       (λ hsb. clear s sn has hsb (zero_of_neg (o a b s) (o a s b) (flip E o L a s b) flat))
       (λ e. nb e)
       (λ hbs. amid_all (o a b s) (o a b z) (o a s z) (o b s z) (L.order a b s z hab hbs hsz) flat h
-      (same_weak (o z b s) (o b s z) (sym (L.cycle z b s)) g.2))))
+      (weak_same (o z b s) (o b s z) (sym (L.cycle z b s)) g.2))))
       (λ e. nz e)
       (λ hzs. after_all (o a b z) (o a b s) (o a z s) (o b z s) (o z b s) (L.order a b z s hab hbz hzs) h (L.swap b z s) g.2 g.1);
 }
@@ -51,9 +52,9 @@ pub settled_before : (E : Setting) (o : ℕ → ℕ → ℕ → ℤ) → Laws E 
     → AllLeft E.n E.B o (λ s. E.B s z) c a → pos 0 ≤ℤ o c a z → E.B s a → pos 0 ≤ℤ o a z s
 settled_before E o L c a z s cn sn hca haz left h hsa =
     let hs : pos 0 ≤ℤ o c a s = left s sn (E.trans s a z hsa haz) in
-    same_weak (o s a z) (o a z s) (sym (L.cycle s a z))
+    weak_same (o s a z) (o a z s) (sym (L.cycle s a z))
     (by_place E s c sn cn
-    (λ p. third_rises (o s c a) (o s c z) (o s a z) (o c a z) (L.order s c a z p hca haz) (same_weak (o c a s) (o s c a) (L.cycle s c a) hs) h)
+    (λ p. third_rises (o s c a) (o s c z) (o s a z) (o c a z) (L.order s c a z p hca haz) (weak_same (o c a s) (o s c a) (L.cycle s c a) hs) h)
     (λ e. subst (λ x. pos 0 ≤ℤ o x a z) (sym e) h)
     (λ p. last_rises (o c s a) (o c s z) (o c a z) (o s a z) (L.order c s a z p hsa haz)
     (not_positive (o c s a) (o c a s) (flip E o L c s a) hs) h))
@@ -62,7 +63,7 @@ settled_before E o L c a z s cn sn hca haz left h hsa =
 pub settled_side : (E : Setting) (o : ℕ → ℕ → ℕ → ℤ) → Laws E o → (p q a z : ℕ) → E.B p q → E.B q a → E.B a z
     → pos 0 ≤ℤ o p q a → pos 0 ≤ℤ o a z q → pos 0 ≤ℤ o p q z
 settled_side E o L p q a z hpq hqa haz hp hq =
-    second_rises (o p q a) (o p q z) (o p a z) (o q a z) (L.order p q a z hpq hqa haz) hp (same_weak (o a z q) (o q a z) (L.cycle q a z) hq)
+    second_rises (o p q a) (o p q z) (o p a z) (o q a z) (L.order p q a z hpq hqa haz) hp (weak_same (o a z q) (o q a z) (L.cycle q a z) hq)
 
 -- all points left of two sides: i to j, and a to b with i in its range
 flat_first : (x y : ℤ) → x ≡ neg_ℤ y → pos 0 ≤ℤ x → pos 0 ≤ℤ y → y ≡ pos 0
@@ -93,7 +94,7 @@ one_side E o L Q all a b i j an bn iN jn hab left clear hij left2 clear2 (inl e)
     (λ q. (e, q))
     (λ p. absurd (clear j jn hib2 p (flat_first (o a b j) (o a j b) (flip E o L a j b) abj ajb)))
 one_side E o L Q all a b i j an bn iN jn hab left clear hij left2 clear2 (inr hai) hib =
-    let aij : pos 0 ≤ℤ o a i j = same_weak (o i j a) (o a i j) (L.cycle a i j) (left2 a an (all a an)) in
+    let aij : pos 0 ≤ℤ o a i j = weak_same (o i j a) (o a i j) (L.cycle a i j) (left2 a an (all a an)) in
     let aib : o a i b <ℤ pos 0 = below (o a b i) (o a i b) (flip E o L a i b) (left i iN (all i iN)) (clear i iN hai hib) in
     let ijb : pos 0 ≤ℤ o i j b = left2 b bn (all b bn) in
     by_place E j b jn bn

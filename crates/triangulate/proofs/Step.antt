@@ -3,13 +3,14 @@ use Rattle.std.proofs.Common.{◌≡◌, ◌≢◌, ℕ, ℤ, pos, neg_ℤ, ◌<
 use Rattle.std.specs.Prelude.{◌<ℤ◌, ◌≤ℤ◌}
 use Rattle.std.proofs.lemmas.Int.{ints}
 use Rattle.triangulate.proofs.Field.{Setting, Laws, not_both, before_up_to, up_to_not_before, flip, zero_ends}
-use Rattle.triangulate.proofs.Turns.{Spine, beyond_side, spine_side, no_crossing, same_above}
+use Rattle.triangulate.proofs.Turns.{Spine, beyond_side, spine_side, no_crossing}
 use Rattle.triangulate.proofs.Sides.{empty_next, empty_side}
 use Rattle.triangulate.proofs.State.{Adds}
 use Rattle.triangulate.proofs.Wedge.{wedge}
 use Rattle.triangulate.specs.Sides.{UpTo, Beyond, Empty, AllLeft, Clear}
 use Rattle.triangulate.specs.State.{Links, Side, Covered, Chain, Reach, Sweeps, Apex, Pairs, From, Joining}
 use Rattle.number_laws.proofs.Signs.{positive_of_neg, weak_of_positive}
+use Rattle.number_laws.proofs.Signs.{weak_of_zero, positive_same}
 
 -- at equal points
 pub at : (P : ℕ → ℕ → Type 0) (a b p q : ℕ) → p ≡ a → q ≡ b → P a b → P p q
@@ -50,9 +51,6 @@ pairs_add E o J J2 a z an zn haz add new h = record {
 pub positive_turned : (x y : ℤ) → y ≡ neg_ℤ x → x ≡ pos 0 → pos 0 <ℤ y → ⊥
 positive_turned x y e f g = omega (arith, ints)
 
-pub at_zero : (x : ℤ) → x ≡ pos 0 → pos 0 ≤ℤ x
-at_zero x h = omega (arith, ints)
-
 -- the pair of a and z, where the points after a are left of it and a is on the chain
 pub sweeps_new : (E : Setting) (o : ℕ → ℕ → ℕ → ℤ) → Laws E o → (a z : ℕ) → a < E.n → z < E.n → E.B a z → Beyond E.n E.B o a z → Spine E.n E.B o a z → Sweeps E.n E.B o a z
 sweeps_new E o L a z an zn haz beyond spine = record {
@@ -67,7 +65,7 @@ covers_less E b a r i k hia = elim k.link [
 ]
 
 side_new : (E : Setting) (o : ℕ → ℕ → ℕ → ℤ) → Laws E o → (a z last : ℕ) → a < E.n → last < E.n → E.B last z → UpTo E.B a last → Beyond E.n E.B o a z → pos 0 ≤ℤ o a z last
-side_new E o L a z last an ln hl (inl e) far = subst (λ x. pos 0 ≤ℤ o a z x) e (at_zero (o a z a) (zero_ends E o L a z))
+side_new E o L a z last an ln hl (inl e) far = subst (λ x. pos 0 ≤ℤ o a z x) e (weak_of_zero (o a z a) (zero_ends E o L a z))
 side_new E o L a z last an ln hl (inr p) far = weak_of_positive (o a z last) (far last ln p hl)
 
 step_apex : (E : Setting) (o w : ℕ → ℕ → ℕ → ℤ) → Laws E o → (J J2 : ℕ → ℕ → Type 0) (b a : ℕ) (r : List ℕ) (t2 : ℕ) (r2 : List ℕ) (z last : ℕ)
@@ -89,7 +87,7 @@ step_apex E o w L J J2 b a r t2 r2 z last m an bn baz hollow jab add p q j =
                   r_in = an;
                   first = add.back;
                   second = ba;
-                  left = same_above (o b a z) (o z b a) (L.cycle z b a) baz;
+                  left = positive_same (o b a z) (o z b a) (L.cycle z b a) baz;
                   empty = empty_next E o a z b (empty_next E o b a z hollow);
                 }))
             | inr y2 ↦ elim y2 [
@@ -103,7 +101,7 @@ step_apex E o w L J J2 b a r t2 r2 z last m an bn baz hollow jab add p q j =
       ]
       | inr k ↦ elim k [
         | inl e ↦ inl (at (λ x y. Apex E.n E.B o J2 x y) a z p q e.0 e.1
-            (record { r = b; r_in = bn; first = ab; second = zb; left = same_above (o b a z) (o a z b) (sym (L.cycle b a z)) baz; empty = empty_next E o b a z hollow }))
+            (record { r = b; r_in = bn; first = ab; second = zb; left = positive_same (o b a z) (o a z b) (sym (L.cycle b a z)) baz; empty = empty_next E o b a z hollow }))
         | inr e ↦ inr (inl (inl (e.1, e.0)))
       ]
     ]

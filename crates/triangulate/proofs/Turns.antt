@@ -9,6 +9,7 @@ use Rattle.triangulate.proofs.Field.{Setting, Laws, flip, zero_ends, by_place}
 use Rattle.triangulate.specs.Sides.{AllLeft, Beyond, Cross}
 use Rattle.plane.proofs.laws.Opposite.{opposite_neg}
 use Rattle.number_laws.proofs.Signs.{positive_of_neg, zero_not_negative, zero_not_positive}
+use Rattle.number_laws.proofs.Signs.{weak_same, positive_same}
 
 -- the chain doesn't turn to the right at a
 abbrev pub Spine : (n : ℕ) (B : ℕ → ℕ → Type 0) (o : ℕ → ℕ → ℕ → ℤ) (a z : ℕ) → Type 0
@@ -16,9 +17,6 @@ Spine n B o a z = (k l : ℕ) → k < n → l < n → B k a → B a l → B l z 
 
 pub not_positive : (x y : ℤ) → y ≡ neg_ℤ x → pos 0 ≤ℤ y → x ≤ℤ pos 0
 not_positive x y e h = omega (arith, ints)
-
-pub same_weak : (x y : ℤ) → x ≡ y → pos 0 ≤ℤ x → pos 0 ≤ℤ y
-same_weak x y e h = omega (arith, ints)
 
 -- where z is right of the side a to b, the points after a are left of a to z
 pub beyond_side : (E : Setting) (o : ℕ → ℕ → ℕ → ℤ) → Laws E o → (a b z : ℕ) → b < E.n → E.B a b → E.B b z
@@ -36,7 +34,7 @@ beyond_side E o L a b z bn hab hbz left h s sn has hsz =
 pub spine_side : (E : Setting) (o : ℕ → ℕ → ℕ → ℤ) → Laws E o → (a b z : ℕ) → b < E.n → E.B a b → E.B b z
     → AllLeft E.n E.B o (λ s. E.B s z) a b → Spine E.n E.B o a z
 spine_side E o L a b z bn hab hbz left k l kn ln hka hal hlz =
-    let kab : pos 0 ≤ℤ o k a b = same_weak (o a b k) (o k a b) (L.cycle k a b) (left k kn (E.trans k a z hka (E.trans a b z hab hbz))) in
+    let kab : pos 0 ≤ℤ o k a b = weak_same (o a b k) (o k a b) (L.cycle k a b) (left k kn (E.trans k a z hka (E.trans a b z hab hbz))) in
     by_place E l b ln bn
     (λ p. first_rises (o k a l) (o k a b) (o k l b) (o a l b) (L.order k a l b hka hal p) kab
     (not_positive (o a l b) (o a b l) (flip E o L a l b) (left l ln hlz)))
@@ -63,9 +61,6 @@ four_third a b c d y q ha hb hd e (inr h) = omega (arith, ints, h.0, h.1, q.sum)
 pub same_below : (x y : ℤ) → x ≡ y → x <ℤ pos 0 → y <ℤ pos 0
 same_below x y e h = omega (arith, ints)
 
-pub same_above : (x y : ℤ) → x ≡ y → pos 0 <ℤ x → pos 0 <ℤ y
-same_above x y e h = omega (arith, ints)
-
 pub above_turned : (x y : ℤ) → y ≡ neg_ℤ x → pos 0 <ℤ y → x <ℤ pos 0
 above_turned x y e h = omega (arith, ints)
 
@@ -86,7 +81,7 @@ crosses_none E o L a z k l an kn ln haz hkz hlz beyond spine hk hl h =
     (spine k l kn ln hka p hlz) kaz (above_turned (o a l z) (o a z l) (flip E o L a l z) hl) (flip E o L k a l) h)
     (λ e. zero_not_positive (o a z l) (subst (λ x. o a z x ≡ pos 0) e (zero_ends E o L a z)) hl)
     (λ hla.
-    let laz : pos 0 <ℤ o l a z = same_above (o a z l) (o l a z) (L.cycle l a z) hl in
+    let laz : pos 0 <ℤ o l a z = positive_same (o a z l) (o l a z) (L.cycle l a z) hl in
     by_place E k l kn ln
     (λ p. four_first (o k l a) (o k l z) (o k a z) (o l a z) (L.order k l a z p hla haz) h kaz laz)
     (λ e. two_signs (o a z k) hk (subst (λ x. pos 0 <ℤ o a z x) (sym e) hl))

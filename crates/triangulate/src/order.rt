@@ -12,7 +12,8 @@ use std::alloc::{AllocError, Global};
 fn with_indices(alloc: Global, points: &Points) -> Result<Vec<(Point, u32)>, AllocError>
     ensures accepted { AreAccepted points.now }
     ensures count { IfOk result (λ v. vec_len v ≡ length points.now) }
-    ensures each { IfOk result (λ v. (k : ℕ) (d : Point × ℕ) → k < length points.now → slice_index_or v.items k d ≡ (point points.now k, k)) }
+    ensures each { IfOk result (λ v. (k : ℕ) (d : Point × ℕ) → k < length points.now
+        → slice_index_or v.items k d ≡ (point points.now k, k)) }
 {
     let count = points.len();
     let mut placed = Vec::new(alloc);

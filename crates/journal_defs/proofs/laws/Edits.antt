@@ -16,11 +16,12 @@ use Rattle.journal_defs.specs.Edits.{State, after, IsLegalDrop, IsSpare, IsLegal
 use Rattle.journal_defs.specs.Journal.{after_all, AreLegal, replay_from, AreLegalFrom}
 use Rattle.partition_defs.proofs.laws.Sets.{ascending_without, ascending_with, without_with, with_without, contains_without, without_contains, contains_with, with_contains, with_contains_own, joins_without, without_joins}
 use Rattle.partition_defs.proofs.laws.Joined.{contains_joins, joins_contains, among_joins}
-use Rattle.journal_defs.proofs.laws.Members.{is_end_lo, is_end_hi, true_or}
+use Rattle.journal_defs.proofs.laws.Members.{is_end_lo, is_end_hi}
 use Rattle.partition_defs.specs.Flips.{IsFlippable, IsFlip}
 use Rattle.partition_defs.proofs.laws.Flips.{flip_of_quad, quad_of_flip, triangulation_of_flip, flip_swap, flipped_set}
 use Rattle.journal_defs.proofs.laws.Flips.{flip_of_legal, legal_of_flip}
 use Rattle.journal_defs.proofs.laws.Journal.{legal_append, after_append}
+use Rattle.std.proofs.lemmas.Bool.{or_left}
 
 -- each pair of K is one of L
 abbrev pub IsAmong : (K L : List Pair) → Type 0
@@ -216,8 +217,8 @@ local S s t (Drop e) so to alike legal = local_drop S s t e so to (alike e.lo (i
 local S s t (Keep e) so to alike legal = alike_spare s t e (alike e.lo (is_end_lo e)) legal
 local S s t (Flip e f) so to alike legal =
     local_flip S s t e f so to
-    (alike e.lo (true_or (is_end e e.lo) (is_end f e.lo) (is_end_lo e)))
-    (alike e.hi (true_or (is_end e e.hi) (is_end f e.hi) (is_end_hi e)))
+    (alike e.lo (or_left (is_end e e.lo) (is_end f e.lo) (is_end_lo e)))
+    (alike e.hi (or_left (is_end e e.hi) (is_end f e.hi) (is_end_hi e)))
     legal
 
 -- the way back

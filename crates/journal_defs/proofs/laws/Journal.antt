@@ -10,6 +10,7 @@ use Rattle.journal_defs.specs.declared.commit.Commit.{Commit}
 use Rattle.journal_defs.specs.Edits.{State, after, touches, AreAlikeAt}
 use Rattle.journal_defs.specs.Journal.{after_all, AreLegal, opening, replay_from, replay, AreLegalFrom, HaveSeqsAfter, commit_touches, last_from, last, Spares}
 use Rattle.journal_defs.proofs.laws.Members.{untouched, alike_own, alike_on, star_alike}
+use Rattle.std.proofs.lemmas.Bool.{or_parts}
 
 pub after_append : (es fs : List Edit) (s : State) → after_all (es ++ fs) s ≡ after_all fs (after_all es s)
 after_append [] fs s = refl
@@ -81,18 +82,11 @@ last_from_most n best (c ∷ J) v h =
 pub last_most : (J : List Commit) (v : ℕ) → last J v ≤ length J
 last_most J v = let r = last_from_most 0 0 J v (omega arith) in omega (arith, r)
 
-or_false : (a b : Bool) → (a || b) ≡ false → (a ≡ false) × (b ≡ false)
-or_false true b h = elim (no h) [ ]
-  where
-    no : true ≡ false → ⊥
-    no e = cc
-or_false false b h = (refl, h)
-
 -- edits that spare v change nothing at it
 pub edits_spared : (es : List Edit) (s : State) (v : ℕ) → list_any (λ e. touches e v) es ≡ false → AreAlikeAt s (after_all es s) v
 edits_spared [] s v h = alike_own s v
 edits_spared (e ∷ es) s v h =
-    let r = or_false (touches e v) (list_any (λ e. touches e v) es) h in
+    let r = or_parts (touches e v) (list_any (λ e. touches e v) es) h in
     alike_on s (after e s) (after_all es (after e s)) v (untouched e s v r.0) (edits_spared es (after e s) v r.1)
 
 pub replay_spared : (L : List Commit) (s : State) (v : ℕ) → Spares L v → AreAlikeAt s (replay_from s L) v

@@ -16,9 +16,9 @@ use Rattle.journal_defs.specs.Edits.{State, after, IsLegal, touches, IsSound, Ar
 use Rattle.journal_defs.specs.Journal.{HaveSeqsAfter, after_all, AreLegal, opening, replay_from, replay, AreLegalFrom, made, HasSize, IsLegalJournal, IsSwept, drops, as_drops}
 use Rattle.partition_defs.proofs.laws.Has.{Has, has_of}
 use Rattle.partition_defs.proofs.laws.Sets.{joins_without, without_joins, joins_with, with_joins, with_joins_own, contains_without}
-use Rattle.journal_defs.proofs.laws.Members.{true_or, or_true}
 use Rattle.journal_defs.proofs.laws.Journal.{append_legal_from, legal_from_append, append_seqs, seqs_append}
 use Rattle.journal_defs.proofs.laws.Edits.{IsAmong, sound_after, sound_drop, local, drop_stays_illegal}
+use Rattle.std.proofs.lemmas.Bool.{or_left, or_right}
 
 -- what two sets have alike at v they have alike there after e was taken out of both, or put into both
 out_of_both : (e : Pair) (K L : List Pair) (v w : ℕ) → (Joins K v w → Joins L v w) → Joins (without e K) v w → Joins (without e L) v w
@@ -54,10 +54,10 @@ pub local_all : (S : List Point) (s t : State) (es : List Edit) → IsSound S s 
     → ((v : ℕ) → list_any (λ e. touches e v) es ≡ true → AreAlikeAt s t v) → AreLegal S s es → AreLegal S t es
 local_all S s t [] so to alike legal = tt
 local_all S s t (e ∷ es) so to alike legal =
-    let here : IsLegal S t e = local S s t e so to (λ v h. alike v (true_or (touches e v) (list_any (λ e. touches e v) es) h)) legal.0 in (
+    let here : IsLegal S t e = local S s t e so to (λ v h. alike v (or_left (touches e v) (list_any (λ e. touches e v) es) h)) legal.0 in (
       here,
       local_all S (after e s) (after e t) es (sound_after S s e so legal.0) (sound_after S t e to here)
-          (λ v h. alike_after e s t v (alike v (or_true (touches e v) (list_any (λ e. touches e v) es) h))) legal.1,
+          (λ v h. alike_after e s t v (alike v (or_right (touches e v) (list_any (λ e. touches e v) es) h))) legal.1,
     )
 
 -- a prefix of a legal journal is legal

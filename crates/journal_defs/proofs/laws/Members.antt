@@ -1,6 +1,6 @@
 -- What stays at a vertex that an edit doesn't touch.
 use Rattle.std.proofs.Common.{◌≡◌, ℕ, Bool, true, false, ◌||◌, nat_eq, List, inl, inr, sym, refl}
-use Rattle.std.proofs.lemmas.Bool.{false≢true}
+use Rattle.std.proofs.lemmas.Bool.{or_parts}
 use Rattle.std.proofs.lemmas.Bool.Decides.{Decides-eqb, Decides-or, not_from_Decides}
 use Rattle.plane.specs.declared.coordinates.Point.{Point}
 use Rattle.plane.specs.declared.segment.Pair.{Pair}
@@ -25,22 +25,6 @@ is_end_lo e = (Decides-or (nat_eq e.lo e.lo) (nat_eq e.hi e.lo) (Decides-eqb e.l
 pub is_end_hi : (e : Pair) → is_end e e.hi ≡ true
 is_end_hi e = (Decides-or (nat_eq e.lo e.hi) (nat_eq e.hi e.hi) (Decides-eqb e.lo e.hi) (Decides-eqb e.hi e.hi)).1 (inr refl)
 
-or_first : (a b : Bool) → (a || b) ≡ false → a ≡ false
-or_first true b h = absurd (false≢true (sym h))
-or_first false b h = refl
-
-or_second : (a b : Bool) → (a || b) ≡ false → b ≡ false
-or_second true b h = absurd (false≢true (sym h))
-or_second false b h = h
-
-pub true_or : (a b : Bool) → a ≡ true → (a || b) ≡ true
-true_or true b h = refl
-true_or false b h = absurd (false≢true h)
-
-pub or_true : (a b : Bool) → b ≡ true → (a || b) ≡ true
-or_true true b h = refl
-or_true false b h = h
-
 pub alike_own : (s : State) (v : ℕ) → AreAlikeAt s s v
 alike_own s v = record { all = λ w. (λ h. h, λ h. h); kept = λ w. (λ h. h, λ h. h) }
 
@@ -64,8 +48,8 @@ pub untouched : (e : Edit) (s : State) (v : ℕ) → touches e v ≡ false → A
 untouched (Drop e) s v far = record { all = λ w. (λ h. h, λ h. h); kept = λ w. left_out e s.kept v w far }
 untouched (Keep e) s v far = record { all = λ w. (λ h. h, λ h. h); kept = λ w. put_in e s.kept v w far }
 untouched (Flip e f) s v far = record {
-  all = λ w. (let a = left_out e s.all v w (or_first (is_end e v) (is_end f v) far) in
-      let b = put_in f (without e s.all) v w (or_second (is_end e v) (is_end f v) far) in
+  all = λ w. (let a = left_out e s.all v w (or_parts (is_end e v) (is_end f v) far).0 in
+      let b = put_in f (without e s.all) v w (or_parts (is_end e v) (is_end f v) far).1 in
       (λ h. b.0 (a.0 h), λ h. a.1 (b.1 h)));
   kept = λ w. (λ h. h, λ h. h);
 }

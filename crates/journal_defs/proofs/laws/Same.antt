@@ -14,9 +14,10 @@ use Rattle.journal_defs.specs.Edits.{State, is_end, touches, IsSound, AreAlikeAt
 use Rattle.star.specs.Gaps.{MeetsWithout, MissesWithout}
 use Rattle.journal_defs.specs.Table.{StaysMet, IsOpened, ShowsApex, IsEitherApex, JoinsApexes, IsFresh, Fits, Refuses}
 use Rattle.journal_defs.specs.Neighbours.{are_joined, put_in_turn, turned_below, star_list, star_value, IsWhy}
-use Rattle.journal_defs.proofs.laws.Members.{is_end_lo, is_end_hi, true_or, or_true}
+use Rattle.journal_defs.proofs.laws.Members.{is_end_lo, is_end_hi}
 use Rattle.journal_defs.proofs.laws.Table.{IsTrueAt, MeetsIn}
 use Rattle.journal_defs.proofs.laws.Turned.{Decides-joined, star_is_value}
+use Rattle.std.proofs.lemmas.Bool.{or_left, or_right}
 
 -- the two stars have one centre, one list and the same points
 abbrev pub AreOne : (s t : Seen) → Type 0
@@ -87,9 +88,9 @@ same_fits S at bt (Keep e) one h =
     let a = one e.lo (is_end_lo e) in
     record { there = near (at e.lo) (bt e.lo) e.hi a h.there; spare = λ m. h.spare (mark (bt e.lo) (at e.lo) e.hi true (one_back (at e.lo) (bt e.lo) a) m) }
 same_fits S at bt (Flip e f) one h =
-    let a = one e.lo (true_or (is_end e e.lo) (is_end f e.lo) (is_end_lo e)) in
-    let b = one e.hi (true_or (is_end e e.hi) (is_end f e.hi) (is_end_hi e)) in
-    let c = one f.lo (or_true (is_end e f.lo) (is_end f f.lo) (is_end_lo f)) in
+    let a = one e.lo (or_left (is_end e e.lo) (is_end f e.lo) (is_end_lo e)) in
+    let b = one e.hi (or_left (is_end e e.hi) (is_end f e.hi) (is_end_hi e)) in
+    let c = one f.lo (or_right (is_end e f.lo) (is_end f f.lo) (is_end_lo f)) in
     let w = fresh at bt e f a c (h.there, h.spare, h.fresh) in
     record { there = w.0; spare = w.1; fresh = w.2; near = h.near; far = h.far; apexes = joins S at bt e f h.near h.far a b h.apexes; lower = h.lower; upper = h.upper }
 
@@ -128,13 +129,13 @@ same_refuses S at bt (Keep e) why one h = keep why h
 same_refuses S at bt (Flip e f) why one h = flip why h
   where
     a : AreOne (at e.lo) (bt e.lo)
-    a = one e.lo (true_or (is_end e e.lo) (is_end f e.lo) (is_end_lo e))
+    a = one e.lo (or_left (is_end e e.lo) (is_end f e.lo) (is_end_lo e))
 
     b : AreOne (at e.hi) (bt e.hi)
-    b = one e.hi (true_or (is_end e e.hi) (is_end f e.hi) (is_end_hi e))
+    b = one e.hi (or_left (is_end e e.hi) (is_end f e.hi) (is_end_hi e))
 
     c : AreOne (at f.lo) (bt f.lo)
-    c = one f.lo (or_true (is_end e f.lo) (is_end f f.lo) (is_end_lo f))
+    c = one f.lo (or_right (is_end e f.lo) (is_end f f.lo) (is_end_lo f))
 
     other : (v : ℕ) → ¬ IsEitherApex S (at e.lo) (at e.hi) e v → ¬ IsEitherApex S (bt e.lo) (bt e.hi) e v
     other v h m = h (either S bt at e v (one_back (at e.lo) (bt e.lo) a) (one_back (at e.hi) (bt e.hi) b) m)

@@ -27,8 +27,9 @@ use Rattle.star.specs.Gaps.{MeetsWithout, MissesWithout}
 use Rattle.journal_defs.specs.Table.{Shows, ShowsKept, IsFirstOpened, ShowsApex, IsEitherApex, IsFirstNoApex, IsFirstBent, JoinsApexes, IsLowRight, IsHighLeft, FitsDrop, FitsKeep, FitsFlip, Fits, RefusesDrop, RefusesKeep, RefusesFlip, Refuses}
 use Rattle.journal_defs.specs.Agree.{AreAgreeing}
 use Rattle.partition_defs.proofs.laws.Sets.{joins_without, without_joins}
-use Rattle.journal_defs.proofs.laws.Members.{is_end_lo, is_end_hi, true_or, or_true}
+use Rattle.journal_defs.proofs.laws.Members.{is_end_lo, is_end_hi}
 use Rattle.journal_defs.proofs.laws.Edits.{gone_can, can_gone, HasQuad, legal_flippable, flippable_legal}
+use Rattle.std.proofs.lemmas.Bool.{or_left, or_right}
 
 -- the star of v is its star in the state
 abbrev pub IsTrueAt : List Point → State → (ℕ → Seen) → ℕ → Type 0
@@ -150,8 +151,8 @@ pub fits_legal : (S : List Point) (s : State) (at : ℕ → Seen) (e : Edit) →
 fits_legal S s at (Drop e) sound so fits = fits_drop S s at e sound (so e.lo (is_end_lo e)) (so e.hi (is_end_hi e)) fits
 fits_legal S s at (Keep e) sound so fits = fits_spare S s at e sound (so e.lo (is_end_lo e)) fits.there fits.spare
 fits_legal S s at (Flip e f) sound so fits =
-    let low = so e.lo (true_or (is_end e e.lo) (is_end f e.lo) (is_end_lo e)) in
-    let high = so e.hi (true_or (is_end e e.hi) (is_end f e.hi) (is_end_hi e)) in
+    let low = so e.lo (or_left (is_end e e.lo) (is_end f e.lo) (is_end_lo e)) in
+    let high = so e.hi (or_left (is_end e e.hi) (is_end f e.hi) (is_end_hi e)) in
     flippable_legal S s e f sound (fits_spare S s at e sound low fits.there fits.spare) (fits_flippable S s at e f sound low high fits)
 
 pub legal_fits : (S : List Point) (s : State) (at : ℕ → Seen) (e : Edit) → IsSound S s → ((v : ℕ) → touches e v ≡ true → IsTrueAt S s at v) → IsLegal S s e → Fits S at e
@@ -160,9 +161,9 @@ legal_fits S s at (Keep e) sound so legal =
     let low = so e.lo (is_end_lo e) in
     record { there = there_shows S s at e low legal.there; spare = spare_not_kept S s at e low legal }
 legal_fits S s at (Flip e f) sound so legal =
-    let low = so e.lo (true_or (is_end e e.lo) (is_end f e.lo) (is_end_lo e)) in
-    let high = so e.hi (true_or (is_end e e.hi) (is_end f e.hi) (is_end_hi e)) in
-    let new = so f.lo (or_true (is_end e f.lo) (is_end f f.lo) (is_end_lo f)) in
+    let low = so e.lo (or_left (is_end e e.lo) (is_end f e.lo) (is_end_lo e)) in
+    let high = so e.hi (or_left (is_end e e.hi) (is_end f e.hi) (is_end_hi e)) in
+    let new = so f.lo (or_right (is_end e f.lo) (is_end f f.lo) (is_end_lo f)) in
     flippable_fits S s at e f sound low high new legal.spare legal.fresh (legal_flippable S s e f sound legal)
 
 -- a star shows one apex
@@ -210,8 +211,8 @@ refused_illegal S s at (Drop e) why sound so r legal = refused_drop S at e why r
 refused_illegal S s at (Keep e) why sound so r legal = refused_keep at e why r (legal_fits S s at (Keep e) sound so legal)
 refused_illegal S s at (Flip e f) why sound so r legal =
     refused_flip S at e f why
-    (so e.lo (true_or (is_end e e.lo) (is_end f e.lo) (is_end_lo e))).star
-    (so e.hi (true_or (is_end e e.hi) (is_end f e.hi) (is_end_hi e))).star
+    (so e.lo (or_left (is_end e e.lo) (is_end f e.lo) (is_end_lo e))).star
+    (so e.hi (or_left (is_end e e.hi) (is_end f e.hi) (is_end_hi e))).star
     r (legal_fits S s at (Flip e f) sound so legal)
 
 -- the first refusal is one

@@ -1,15 +1,14 @@
 -- The flip in a triangulation, over lists of points and segments.
-use Rattle.std.proofs.Common.{◌≡◌, ◌≢◌, ℕ, ℤ, ◌<◌, ◌⊎◌, inl, inr, List, length, sym, refl, subst, arith}
-use Rattle.std.specs.List.{Contains}
+use Rattle.std.proofs.Common.{◌≡◌, ℕ, ℤ, ◌<◌, ◌⊎◌, inl, inr, List, length, sym, refl, subst, arith}
 use Rattle.std.proofs.lemmas.Bool.{cases_order}
 use Rattle.plane.specs.declared.coordinates.Point.{Point}
 use Rattle.plane.specs.declared.segment.Pair.{Pair}
 use Rattle.plane.specs.Geometry.{orientation, AreCrossing, IsBetween, IsClear, IsBorderPair}
 use Rattle.partition_defs.specs.Partition.{HasEnds, Joins}
 use Rattle.partition_defs.specs.Triangulation.{IsTriangulation, IsApex}
-use Rattle.partition_defs.proofs.laws.Has.{has_of, contains_of}
+use Rattle.partition_defs.proofs.laws.Has.{contains_of}
 use Rattle.partition_defs.specs.Sets.{without, with_one}
-use Rattle.partition_defs.proofs.laws.Joined.{joined, join_own, join_back, one_pair}
+use Rattle.partition_defs.proofs.laws.Joined.{joined, join_back, one_pair}
 use Rattle.partition_defs.proofs.laws.Sets.{joins_without, without_joins, joins_with, with_joins, with_joins_own}
 use Rattle.plane_laws.specs.Quads.{AreEnds}
 use Rattle.partition_defs.specs.Flips.{IsFlippable, IsFlip, IsFlipped}
@@ -19,6 +18,8 @@ use Rattle.partition_defs.proofs.laws.Net.{Apex, Net, Quad, Flipped, ends_turned
 use Rattle.plane_laws.proofs.Places.{plane_laws}
 use Rattle.plane.proofs.laws.Border.{clear_back}
 use Rattle.number_laws.proofs.Signs.{turned_high, turned_low}
+use Rattle.partition_defs.proofs.laws.Joined.{contains_joins}
+use Rattle.number_laws.proofs.Naturals.{below_differs}
 
 pub joins_in : (S : List Point) (T : List Pair) → IsTriangulation S T → (i j : ℕ) → Joins T i j → i < length S
 joins_in S T tri i j h =
@@ -74,26 +75,20 @@ net_of S T tri = record {
   apex = λ i j s h sn left. (let (r, a) = tri.apex i j h (s, sn, left) in (r, apex_of S T i j r a));
 }
 
-own : (T : List Pair) (e : Pair) → Contains T e → Joins T e.lo e.hi
-own T e h = join_own T e (has_of T e h)
-
 pub net_to : (S : List Point) (T : List Pair) → Net (length S) (orientation S) (IsBetween S) (Joins T) → IsTriangulation S T
 net_to S T N = record {
-  within = λ e h. N.within e.hi e.lo (N.back e.lo e.hi (own T e h));
-  clear = λ e h k kn b. N.clear e.lo e.hi (own T e h) k kn b;
+  within = λ e h. N.within e.hi e.lo (N.back e.lo e.hi (contains_joins T e h));
+  clear = λ e h k kn b. N.clear e.lo e.hi (contains_joins T e h) k kn b;
   plane = λ e f he hf x. over_of (orientation S) (IsBetween S) (plane_laws S) e.lo e.hi f.lo f.hi x.0 x.1
-      (λ y. N.plane e.lo e.hi f.lo f.hi (own T e he) (own T f hf) y)
-      (λ y. N.plane e.hi e.lo f.lo f.hi (N.back e.lo e.hi (own T e he)) (own T f hf) y);
+      (λ y. N.plane e.lo e.hi f.lo f.hi (contains_joins T e he) (contains_joins T f hf) y)
+      (λ y. N.plane e.hi e.lo f.lo f.hi (N.back e.lo e.hi (contains_joins T e he)) (contains_joins T f hf) y);
   border = λ i j ij jn h. elim h.1 [
-    | inl left ↦ N.border i j (omega arith) jn (differ i j ij) h.0 left
-    | inr left ↦ N.back j i (N.border j i jn (omega arith) (λ e. differ i j ij (sym e)) (clear_back S i j h.0) left)
+    | inl left ↦ N.border i j (omega arith) jn (below_differs i j ij) h.0 left
+    | inr left ↦ N.back j i (N.border j i jn (omega arith) (λ e. below_differs i j ij (sym e)) (clear_back S i j h.0) left)
   ];
   met = λ p pn. (let (q, h) = N.met p pn in (q, N.within q p (N.back p q h), h));
   apex = λ p q j h. (let (r, a) = N.apex p q h.0 j h.1 h.2 in (r, apex_to S T p q r a));
 }
-  where
-    differ : (i j : ℕ) → i < j → i ≢ j
-    differ i j h e = omega arith
 
 quad_from : (S : List Point) (T : List Pair) (a b c d : ℕ) → IsFlippable S T a b c d → Quad (length S) (orientation S) (Joins T) a b c d
 quad_from S T a b c d h = record {

@@ -1,6 +1,7 @@
 -- The pairs of a list by their two ends.
-use Rattle.std.proofs.Common.{◌≡◌, ℕ, List, inl, inr, arith, sym, ◌∙◌, subst, refl}
+use Rattle.std.proofs.Common.{◌≡◌, ℕ, List, inl, inr, min, max, arith, sym, ◌∙◌, subst, refl}
 use Rattle.std.specs.List.{Contains}
+use Rattle.std.proofs.lemmas.Bool.{cases_lt}
 use Rattle.plane.specs.declared.coordinates.Point.{Point}
 use Rattle.plane.specs.declared.segment.Pair.{Pair}
 use Rattle.plane.proofs.laws.Pairs.{pair_same}
@@ -16,6 +17,10 @@ joined T i j (k, e, h, at, ends) = (e, has_of T e (k, h, at), ends)
 
 pub joins_of : (T : List Pair) (e : Pair) (i j : ℕ) → Has e T → HasEnds e i j → Joins T i j
 joins_of T e i j h ends = let (k, l, at) = contains_of T e h in (k, e, l, at, ends)
+
+-- a pair made of two points has these ends
+pub ends_of_new : (e : Pair) (i j : ℕ) → e.lo ≡ min i j → e.hi ≡ max i j → HasEnds e i j
+ends_of_new e i j lo hi = elim (cases_lt i j) [ inl h ↦ inl (omega arith, omega arith) | inr h ↦ inr (omega arith, omega arith) ]
 
 pub ends_back : (e : Pair) (i j : ℕ) → HasEnds e i j → HasEnds e j i
 ends_back e i j (inl h) = inr h

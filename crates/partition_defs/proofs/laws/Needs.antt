@@ -7,7 +7,7 @@ use Rattle.plane.specs.declared.coordinates.Point.{Point}
 use Rattle.plane.specs.declared.segment.Pair.{Pair}
 use Rattle.plane.specs.Geometry.{point, area, scalar, orientation, LiesBetween, IsBetween, IsClear, IsInner}
 use Rattle.plane.specs.Accepted.{AreAccepted}
-use Rattle.plane.proofs.laws.Area.{area_cycle, area_swap, area_back, area_first}
+use Rattle.plane.proofs.laws.Area.{area_cycle, area_swap, area_back, area_first, area_second}
 use Rattle.plane.proofs.laws.Along.{between_swap, other_side, other_side_right, one_between}
 use Rattle.number_laws.proofs.Signs.{negative_or, positive_negative, negative_negative, zero_left, zero_right}
 use Rattle.plane.proofs.laws.Border.{points_differ, clear_back}
@@ -126,9 +126,6 @@ end_within : (S : List Point) (e : Pair) (p x : ℕ) → e.hi < length S → Has
 end_within S e p x h (inl (a, b)) = subst (λ y. y < length S) b h
 end_within S e p x h (inr (a, b)) = let o = e.ordered in subst (λ y. y < length S) a (let r : e.lo < length S = omega arith in r)
 
-flat : (p x : Point) → area p x x ≡ pos 0
-flat p x = let e = area_swap p x x in omega (arith, ints)
-
 furthest : (S : List Point) (T : List Pair) (p q : ℕ) (xs : List Pair) → AreAccepted S → IsTriangulation S T → p < length S → q < length S → q ≢ p → ((f : Pair) → Has f xs → Has f T)
     → Found S T p q ⊎ (None_at p xs ⊎ Furthest S T p q xs)
 furthest S T p q [] accepted tri hp hq ne sub = inr (inl (λ f x h ends. h))
@@ -200,7 +197,7 @@ furthest S T p q (e ∷ xs) accepted tri hp hq ne sub = elim (furthest S T p q x
         own : (x : ℕ) → HasEnds e p x → IsAside S p q x → (f : Pair) (y : ℕ) → e ≡ f → HasEnds f p y → IsAside S p q y × (orientation S p x y ≤ℤ pos 0)
         own x ends aside f y same fe =
             let one : x ≡ y = one_other e p x y ends (subst (λ (z : Pair). HasEnds z p y) (sym same) fe) in
-            (subst (λ z. IsAside S p q z) one aside, (let z : orientation S p x y ≡ pos 0 = ap (λ w. orientation S p x w) (sym one) ∙ flat (point S p) (point S x) in omega (arith, ints)))
+            (subst (λ z. IsAside S p q z) one aside, (let z : orientation S p x y ≡ pos 0 = ap (λ w. orientation S p x w) (sym one) ∙ area_second (point S p) (point S x) in omega (arith, ints)))
 
         keeps : (best : Furthest S T p q xs) (x : ℕ) → HasEnds e p x → IsAside S p q x → orientation S p best.m x ≤ℤ pos 0 → Furthest S T p q (e ∷ xs)
         keeps best x ends aside weak = record {

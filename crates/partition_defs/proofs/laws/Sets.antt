@@ -85,11 +85,11 @@ pub ascending_without : (e : Pair) (K : List Pair) → IsAscending K → IsAscen
 unfolding without
 ascending_without e K a = AllPairs-filter ComesFirst (λ g. not (is_same g e)) K a
 
-first_on : (a b c : Pair) → ComesFirst a b → ComesFirst b c → ComesFirst a c
-first_on a b c (inl h) (inl k) = inl (omega arith)
-first_on a b c (inl h) (inr k) = inl (omega (arith, k.0))
-first_on a b c (inr h) (inl k) = inl (omega (arith, h.0))
-first_on a b c (inr h) (inr k) = inr (omega (arith, h.0, k.0), omega (arith, h.1, k.1))
+pub first_trans : (a b c : Pair) → ComesFirst a b → ComesFirst b c → ComesFirst a c
+first_trans a b c (inl h) (inl k) = inl (omega arith)
+first_trans a b c (inl h) (inr k) = inl (omega (arith, k.0))
+first_trans a b c (inr h) (inl k) = inl (omega (arith, h.0))
+first_trans a b c (inr h) (inr k) = inr (omega (arith, h.0, k.0), omega (arith, h.1, k.1))
 
 pub ascending_with : (e : Pair) (K : List Pair) → IsAscending K → IsAscending (with_one e K)
 unfolding with_one
@@ -101,7 +101,7 @@ ascending_with e K a =
     ascending_of (low ++ e ∷ high) (rises_append low (e ∷ high)
     (rises_of low (AllPairs-filter ComesFirst (λ g. precedes g e) K a))
     (behind, rises_of high (AllPairs-filter ComesFirst (λ g. precedes e g) K a))
-    (λ f g h k. elim k [ inl same ↦ subst (λ (z : Pair). ComesFirst f z) same (before f h) | inr l ↦ first_on f e g (before f h) (behind g l) ]))
+    (λ f g h k. elim k [ inl same ↦ subst (λ (z : Pair). ComesFirst f z) same (before f h) | inr l ↦ first_trans f e g (before f h) (behind g l) ]))
 
 -- ascending lists of the same segments are equal
 pub one_set : (K L : List Pair) → IsAscending K → IsAscending L → ((e : Pair) → Has e K → Has e L) → ((e : Pair) → Has e L → Has e K) → K ≡ L

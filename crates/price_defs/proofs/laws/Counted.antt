@@ -15,9 +15,10 @@ use Rattle.price_defs.specs.declared.row.Row.{Row}
 use Rattle.price_defs.specs.declared.row.Row.TheVariants.{Half, Three, Cross, Cap}
 use Rattle.price_defs.specs.Rows.{IsRight, AreRight, weight, Counts, counts, lessens}
 use Rattle.price_defs.specs.Loads.{given, lessened, gives, takes, added, lost}
-use Rattle.price_defs.proofs.laws.Sums.{sum-add, sum-zero, sum-le_on, sum-one_off, sum-part, sum-at_most_one, outside, contains_cases}
+use Rattle.number_laws.proofs.ListSums.{sum-add, sum-zero, sum-le_on, sum-one_off, sum-part, sum-at_most_one, outside, contains_cases}
 use Rattle.price_defs.proofs.laws.Tests.{same_pair, same_pair_decides, counts_decides, lessens_decides}
-use Rattle.price_defs.proofs.laws.Sides.{three_at, border_turned}
+use Rattle.plane.proofs.laws.Border.{border_back}
+use Rattle.price_defs.proofs.laws.Three.{three_at}
 
 pub given_yes : (S : List Point) (row : Row) (i j : ℕ) → Counts S row i j → given S i j row ≡ weight row
 given_yes S row i j h = ap (λ t. cond t (weight row) 0) ((counts_decides S row i j).1 h)
@@ -169,7 +170,7 @@ all_off S K (row ∷ rows) d plane right =
 -- No right row counts a border pair.
 inner_free : (S : List Point) (p i j : ℕ) → IsInner S p → IsBorderPair S i j → i < j → j < length S → (i ≡ p) ⊎ (j ≡ p) → ⊥
 inner_free S p i j inner b l n (inl e) = inner j n (λ g. absurd (omega arith)) (subst (λ x. IsBorderPair S x j) e b)
-inner_free S p i j inner b l n (inr e) = inner i (omega arith) (λ g. absurd (omega arith)) (subst (λ x. IsBorderPair S x i) e (border_turned S i j b))
+inner_free S p i j inner b l n (inr e) = inner i (omega arith) (λ g. absurd (omega arith)) (subst (λ x. IsBorderPair S x i) e (border_back S i j b))
 
 pub row_free : (S : List Point) (row : Row) (i j : ℕ) → IsRight S row → IsBorderPair S i j → i < j → j < length S → ¬ Counts S row i j
 row_free S (Half p q w) i j right b l n (inl c) = inner_free S p i j right.3 b l n (inl c.0)

@@ -17,7 +17,7 @@ use Rattle.price_defs.specs.declared.row.Row.{Row}
 use Rattle.cost_defs.specs.Costs.{Costed, cost, total}
 use Rattle.price_defs.specs.Loads.{gives, takes, load, IsValid, added, lost}
 use Rattle.price_defs.specs.Duality.{NoneIsCheaper}
-use Rattle.price_defs.proofs.laws.Sums.{sum-add, sum-scale, sum-le_on, sum-part, outside}
+use Rattle.number_laws.proofs.ListSums.{sum-add, sum-scale, sum-le_on, sum-part, outside}
 use Rattle.price_defs.proofs.laws.Tests.{same_pair, same_pair_decides}
 use Rattle.price_defs.proofs.laws.Counted.{ends_same, all_had, all_off, border_free}
 

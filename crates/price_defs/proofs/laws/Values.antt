@@ -1,5 +1,5 @@
 -- The sums under a value are small.
-use Rattle.std.proofs.Common.{◌≡◌, ℕ, ◌+◌, ◌*◌, ◌<◌, ◌≤◌, List, length, get_or, take, Bool, true, false, cond, ap, arith}
+use Rattle.std.proofs.Common.{◌≡◌, ℕ, ◌+◌, ◌*◌, ◌<◌, ◌≤◌, List, length, get_or, take, ap, arith}
 use Rattle.std.specs.List.{sum_by}
 use Rattle.std.specs.Int.{div_ceil}
 use Rattle.std.proofs.Math.Nat.{mul-le-mul_left, mul_comm}
@@ -12,6 +12,7 @@ use Rattle.price_defs.specs.Rows.{counts, lessens, weight}
 use Rattle.price_defs.specs.Loads.{given, lessened, gives, takes, added, lost}
 use Rattle.price_defs.proofs.laws.Duality.{ceil-le}
 use Rattle.price_defs.specs.Limits.{AreLight}
+use Rattle.number_laws.proofs.ListSums.{cond_le}
 
 added_light : (row : Row) → weight row ≤ 1000000000000 → added row ≤ 3000000000000
 added_light (Half p q w) h = omega arith
@@ -45,10 +46,6 @@ added_total = sum_small added added_light
 
 pub ceil_small : (x q : ℕ) → 0 < q → div_ceil x q ≤ x
 ceil_small x q h = ceil-le x q x h (let k : x * 1 ≤ x * q = mul-le-mul_left x h in omega (arith, mul_comm x q))
-
-cond_le : (b : Bool) (w : ℕ) → cond b w 0 ≤ w
-cond_le true w = omega arith
-cond_le false w = omega arith
 
 -- no load is too great
 pub gives_le : (S : List Point) (rows : List Row) (i j : ℕ) → AreLight rows → length rows ≤ 200000 → gives S rows i j ≤ 200000000000000000

@@ -1,5 +1,5 @@
 -- The floor certificate is valid, gives each inner point its rows, and has the floor as its value.
-use Rattle.std.proofs.Common.{◌≡◌, ◌≢◌, ℕ, zero, suc, ◌+◌, ◌-◌, ◌*◌, ◌<◌, ◌≤◌, ◌⊎◌, inl, inr, pos, neg_ℤ, List, [], ◌∷◌, ◌++◌, length, get_or, Bool, true, false, cond, sym, ◌∙◌, ap, refl, subst, arith}
+use Rattle.std.proofs.Common.{◌≡◌, ◌≢◌, ℕ, zero, suc, ◌+◌, ◌-◌, ◌*◌, ◌<◌, ◌≤◌, ◌⊎◌, inl, inr, pos, List, [], ◌∷◌, ◌++◌, length, get_or, Bool, true, false, cond, sym, ◌∙◌, ap, refl, subst, arith}
 use Rattle.std.specs.Prelude.{◌<ℤ◌, ◌≤ℤ◌, ◌-ℤ◌, ◌||◌, ◌&&◌, nat_eq}
 use Rattle.std.specs.Int.{div_ceil}
 use Rattle.std.specs.List.{AllPairs, AllZip, Contains, flat_map, sum, sum_by}
@@ -12,8 +12,8 @@ use Rattle.std.proofs.lemmas.List.Elements.{All-append, All-cons, All-nil, Conta
 use Rattle.plane.specs.declared.coordinates.Point.{Point}
 use Rattle.plane.specs.First.{IsFirstPair}
 use Rattle.plane.specs.Geometry.{point, area, scalar, LiesBetween, IsBetween, IsClear, IsInner, IsInNeed}
-use Rattle.plane.proofs.laws.Along.{between_swap, other_side, range_across, range_upward}
-use Rattle.plane.proofs.laws.Area.{area_cycle, area_back}
+use Rattle.plane.proofs.laws.Along.{between_swap, other_side}
+use Rattle.plane.proofs.laws.Area.{area_swap, area_back}
 use Rattle.number_laws.proofs.Signs.{by_sign, zero_left}
 use Rattle.plane_laws.specs.Order.{IsBefore}
 use Rattle.plane_laws.proofs.Between.{by_order, between_is_amid}
@@ -24,10 +24,12 @@ use Rattle.price_defs.specs.Rows.{IsRight, AreRight, Counts, counts}
 use Rattle.price_defs.specs.Loads.{given, gives, IsValid, added, lost, value}
 use Rattle.price_defs.specs.Tight.{HasRowsAt, AreCovered}
 use Rattle.price_defs.specs.Floor.{IsLeastCost, IsShare, IsFloor, AreFloorRowsAt, IsFloorCertificate}
-use Rattle.price_defs.proofs.laws.Sums.{sum-add, sum-at_most_one, contains_cases, contains_here, contains_later}
+use Rattle.number_laws.proofs.ListSums.{sum-add, sum-at_most_one, contains_cases, contains_here, contains_later}
 use Rattle.price_defs.proofs.laws.Tests.{counts_decides}
-use Rattle.price_defs.proofs.laws.Sides.{clear_turned, between_turned}
-use Rattle.price_defs.proofs.laws.Nearest.{not_end, same_place}
+use Rattle.plane.proofs.laws.Border.{clear_back}
+use Rattle.plane_laws.proofs.Nearest.{not_first_end, not_between_one}
+use Rattle.plane.proofs.laws.Line.{same_point}
+use Rattle.plane_laws.proofs.Order.{before_asym}
 
 or_turned : (a b : Bool) → (a || b) ≡ (b || a)
 or_turned true true = refl
@@ -43,26 +45,19 @@ cost_turned (x ∷ D) i j =
     ∙ ap (λ n. cond (has_ends x.0 j i) x.1 n) (cost_turned D i j)
 
 -- the needs of p for two points that it is between have no point in common
-back_sign : (p q r : Point) → area p r q ≡ neg_ℤ (area p q r)
-back_sign p q r = omega (arith, ints, area_cycle q p r, area_back p q r)
-
 no_both_left : (p q r x : Point) → LiesBetween p q r → pos 0 <ℤ area p q x → pos 0 <ℤ area p r x → ⊥
 no_both_left p q r x h a b =
-    let s : pos 0 <ℤ area p x q = other_side p q r x h (omega (arith, ints, back_sign p r x)) in
-    omega (arith, ints, back_sign p q x)
+    let s : pos 0 <ℤ area p x q = other_side p q r x h (omega (arith, ints, area_swap p x r)) in
+    omega (arith, ints, area_swap p x q)
 
 in_line_through : (p q r x : Point) → LiesBetween p q r → LiesBetween p r x → pos 0 <ℤ area p q x → ⊥
 in_line_through p q r x h k a =
     let e : area p r x ≡ pos 0 = omega (arith, ints, k.0, area_back p r x) in
-    let f : pos 0 ≤ℤ area p x r = omega (arith, ints, back_sign p r x) in
+    let f : pos 0 ≤ℤ area p x r = omega (arith, ints, area_swap p x r) in
     by_sign (area p x q)
-    (λ g. omega (arith, ints, back_sign p q x))
-    (λ g. omega (arith, ints, back_sign p q x))
-    (λ g. (let s : pos 0 <ℤ area p x r = other_side p r q x (between_swap p q r h) g in omega (arith, ints, back_sign p r x)))
-
-flat : (p q : Point) → p.x ≡ q.x → p.y ≡ q.y → scalar p q q ≡ pos 0
-unfolding scalar
-flat p q ex ey = omega (arith, ints, zero_left (q.x -ℤ p.x) (q.x -ℤ p.x) (omega (arith, ints)), zero_left (q.y -ℤ p.y) (q.y -ℤ p.y) (omega (arith, ints)))
+    (λ g. omega (arith, ints, area_swap p x q))
+    (λ g. omega (arith, ints, area_swap p x q))
+    (λ g. (let s : pos 0 <ℤ area p x r = other_side p r q x (between_swap p q r h) g in omega (arith, ints, area_swap p x r)))
 
 from_end : (p q x : Point) → q.x ≡ p.x → q.y ≡ p.y → scalar p q x ≡ pos 0
 unfolding scalar
@@ -71,35 +66,22 @@ from_end p q x ex ey = omega (arith, ints, zero_left (q.x -ℤ p.x) (x.x -ℤ p.
 not_same_end : (p q x : Point) → q.x ≡ p.x → q.y ≡ p.y → LiesBetween p q x → ⊥
 not_same_end p q x ex ey h = omega (arith, ints, h.1, from_end p q x ex ey)
 
-no_cycle : (p q : Point) → IsBefore q p → IsBefore p q → ⊥
-no_cycle p q (inl h) (inl k) = omega (arith, ints)
-no_cycle p q (inl h) (inr k) = omega (arith, ints, k.0)
-no_cycle p q (inr h) (inl k) = omega (arith, ints, h.0)
-no_cycle p q (inr h) (inr k) = omega (arith, ints, h.1, k.1)
-
-not_same : (p q : Point) → ¬ LiesBetween p q q
-not_same p q h =
-    elim (range_across p q q h) [
-      | inl a ↦ elim (range_upward p q q h) [ inl b ↦ omega (arith, ints, h.1, flat p q (omega (arith, ints, a.0, a.1)) (omega (arith, ints, b.0, b.1))) | inr b ↦ omega (arith, ints, h.1, flat p q (omega (arith, ints, a.0, a.1)) (omega (arith, ints, b.0, b.1))) ]
-      | inr a ↦ elim (range_upward p q q h) [ inl b ↦ omega (arith, ints, h.1, flat p q (omega (arith, ints, a.0, a.1)) (omega (arith, ints, b.0, b.1))) | inr b ↦ omega (arith, ints, h.1, flat p q (omega (arith, ints, a.0, a.1)) (omega (arith, ints, b.0, b.1))) ]
-    ]
-
 beyond : (p q x : Point) → LiesBetween p q x → IsBefore q p → IsBefore p x
 beyond p q x h b =
-    by_order q x (λ l. (between_is_amid p q x l h.0 h.1).1) (λ ex ey. absurd (not_same p q (subst (λ z. LiesBetween p q z) (sym (same_place q x ex ey)) h)))
-    (λ l. (let k : LiesBetween p x q = between_swap p q x h in absurd (no_cycle p q b (between_is_amid p x q l k.0 k.1).1)))
+    by_order q x (λ l. (between_is_amid p q x l h.0 h.1).1) (λ ex ey. absurd (not_between_one p q (subst (λ z. LiesBetween p q z) (sym (same_point q x ex ey)) h)))
+    (λ l. (let k : LiesBetween p x q = between_swap p q x h in absurd (before_asym q p b (between_is_amid p x q l k.0 k.1).1)))
 
 ahead_of : (p q x : Point) → LiesBetween p q x → IsBefore p q → IsBefore x p
 ahead_of p q x h b =
-    by_order q x (λ l. absurd (no_cycle p q (between_is_amid p q x l h.0 h.1).0 b)) (λ ex ey. absurd (not_same p q (subst (λ z. LiesBetween p q z) (sym (same_place q x ex ey)) h)))
+    by_order q x (λ l. absurd (before_asym q p (between_is_amid p q x l h.0 h.1).0 b)) (λ ex ey. absurd (not_between_one p q (subst (λ z. LiesBetween p q z) (sym (same_point q x ex ey)) h)))
     (λ l. (let k : LiesBetween p x q = between_swap p q x h in (between_is_amid p x q l k.0 k.1).0))
 
 no_three_ways : (p q r x : Point) → LiesBetween p q r → LiesBetween p q x → LiesBetween p r x → ⊥
 no_three_ways p q r x h k m =
     by_order q p
-    (λ l. no_cycle p x (ahead_of p r x m (beyond p q r h l)) (beyond p q x k l))
+    (λ l. before_asym x p (ahead_of p r x m (beyond p q r h l)) (beyond p q x k l))
     (λ ex ey. not_same_end p q x ex ey k)
-    (λ l. no_cycle p x (ahead_of p q x k l) (beyond p r x m (ahead_of p q r h l)))
+    (λ l. before_asym x p (ahead_of p q x k l) (beyond p r x m (ahead_of p q r h l)))
 
 -- No point is in the needs of p for both of two points that p is between.
 pub needs_apart : (S : List Point) (p q r x : ℕ) → IsBetween S p q r → IsInNeed S p q x → IsInNeed S p r x → ⊥
@@ -125,7 +107,7 @@ least_first S D p m i j least e l n c =
 
 least_second : (S : List Point) (D : List Costed) (p m i j : ℕ) → IsLeastCost S D p m → j ≡ p → i < j → j < length S → IsClear S i j → m ≤ cost D i j
 least_second S D p m i j least e l n c =
-    let k : m ≤ cost D j i = subst (λ x. m ≤ cost D x i) (sym e) (least.least i (omega arith) (λ g. absurd (omega arith)) (subst (λ x. IsClear S x i) e (clear_turned S i j c))) in
+    let k : m ≤ cost D j i = subst (λ x. m ≤ cost D x i) (sym e) (least.least i (omega arith) (λ g. absurd (omega arith)) (subst (λ x. IsClear S x i) e (clear_back S i j c))) in
     omega (arith, cost_turned D i j)
 
 one_end : (S : List Point) (D : List Costed) (p m i j : ℕ) → IsLeastCost S D p m → i < j → j < length S → IsClear S i j → (i ≡ p) ⊎ (j ≡ p) → m ≤ limit (cost D i j) i j p
@@ -229,9 +211,9 @@ part_right S D p part n inner (m, least, inl h) =
 part_right S D p part n inner (m, least, inr (q, r, first, is)) =
     subst (AreRight S) (sym is)
     (All-cons (IsRight S) (Half p q m) (Half p r m ∷ [])
-    (n, omega (arith, first.ordered, first.within), (λ e. not_end S p r (subst (λ x. IsBetween S p x r) e first.holds)), inner)
+    (n, omega (arith, first.ordered, first.within), (λ e. not_first_end S p r (subst (λ x. IsBetween S p x r) e first.holds)), inner)
     (All-cons (IsRight S) (Half p r m) []
-    (n, first.within, (λ e. not_end S p q (between_turned S p q p (subst (λ x. IsBetween S p q x) e first.holds))), inner) (All-nil (IsRight S))))
+    (n, first.within, (λ e. not_first_end S p q (between_swap (point S p) (point S q) (point S p) (subst (λ x. IsBetween S p q x) e first.holds))), inner) (All-nil (IsRight S))))
 
 parts_right : (S : List Point) (D : List Costed) (ps : List ℕ) (parts : List (List Row)) → ((p : ℕ) → Contains ps p → (p < length S) × IsInner S p) → AllZip (AreFloorRowsAt S D) ps parts
     → AreRight S (flat_map (λ part. part) parts)

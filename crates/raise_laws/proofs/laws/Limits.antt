@@ -17,7 +17,7 @@ use Rattle.price_defs.specs.Raising.{IsRoom}
 use Rattle.price_defs.specs.Laws.{CountsSome}
 use Rattle.price_defs.proofs.laws.Tests.{counts_decides}
 use Rattle.price_defs.proofs.laws.Counted.{row_free}
-use Rattle.price_defs.proofs.laws.Nearest.{counts_some}
+use Rattle.price_defs.proofs.laws.Counting.{counts_some}
 
 pub lessened_lost : (i j : ℕ) (row : Row) → lessened i j row ≤ lost row
 unfolding lessens

@@ -1,8 +1,7 @@
 -- The floor certificate and its raising are one each.
-use Rattle.std.proofs.Common.{◌≡◌, ◌≢◌, ◌↔◌, ℕ, zero, suc, ◌%◌, ◌<◌, ◌≤◌, ◌⊎◌, inl, inr, List, [], ◌∷◌, ◌++◌, length, get_or, Bool, true, false, sym, ◌∙◌, ap, ap₂, refl, subst, arith}
-use Rattle.std.specs.Prelude.{◌||◌, slice_index, ◌-◌}
-use Rattle.std.specs.List.{AllPairs, AllZip, Contains, flat_map, list_any}
-use Rattle.std.proofs.lemmas.Bool.{cases_lt, true≢false}
+use Rattle.std.proofs.Common.{◌≡◌, ◌↔◌, ℕ, zero, suc, ◌<◌, ◌≤◌, inl, inr, List, [], ◌∷◌, length, get_or, sym, ◌∙◌, ap, ap₂, refl, subst, arith}
+use Rattle.std.specs.List.{AllPairs, AllZip, Contains, flat_map}
+use Rattle.std.proofs.lemmas.Bool.{cases_lt}
 use Rattle.plane.specs.declared.coordinates.Point.{Point}
 use Rattle.plane.specs.First.{IsFirstPair}
 use Rattle.plane.specs.Geometry.{IsBetween}
@@ -10,9 +9,9 @@ use Rattle.price_defs.specs.declared.row.Row.{Row}
 use Rattle.price_defs.specs.declared.row.Row.TheVariants.{Half, Three}
 use Rattle.cost_defs.specs.Costs.{Costed}
 use Rattle.price_defs.specs.Floor.{IsInnerList, IsLeastCost, AreFloorRowsAt, IsFloorCertificate}
-use Rattle.price_defs.specs.Raising.{IsRaisedRow, AreRaised, IsRaisedFloor}
-use Rattle.price_defs.proofs.laws.Sums.{contains_cases, contains_here, contains_later}
-use Rattle.raise_laws.proofs.laws.Tightened.{row_once, raised_once}
+use Rattle.price_defs.specs.Raising.{AreRaised, IsRaisedFloor}
+use Rattle.number_laws.proofs.ListSums.{contains_cases, contains_here, contains_later}
+use Rattle.raise_laws.proofs.laws.Tightened.{raised_once}
 
 rising_tail : (x : ℕ) (xs : List ℕ) → AllPairs (λ p q. p < q) (x ∷ xs) → AllPairs (λ p q. p < q) xs
 rising_tail x xs h i j d l m = h (suc i) (suc j) d (omega arith) (omega arith)

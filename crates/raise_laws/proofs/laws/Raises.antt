@@ -19,14 +19,7 @@ use Rattle.price_defs.specs.Tight.{IsAtPoint, IsFull}
 use Rattle.price_defs.specs.Raising.{reweigh, IsRoom, IsRaisedRow, AreRaisedFrom, AreRaised}
 use Rattle.price_defs.proofs.laws.Tests.{counts_decides}
 use Rattle.price_defs.proofs.laws.Counted.{row_free}
-
--- a row with another weight counts the same
-counts_same : (S : List Point) (row : Row) (v i j : ℕ) → counts S (reweigh row v) i j ≡ counts S row i j
-unfolding counts
-counts_same S (Half p q w) v i j = refl
-counts_same S (Three p w) v i j = refl
-counts_same S (Cross e f w) v i j = refl
-counts_same S (Cap e w) v i j = refl
+use Rattle.price_defs.proofs.laws.Reweighed.{counts_reweigh, weight_reweigh, right_reweigh}
 
 pub counted_same : (S : List Point) (row : Row) (v i j : ℕ) → Counts S row i j → Counts S (reweigh row v) i j
 counted_same S (Half p q w) v i j h = h
@@ -39,18 +32,6 @@ counted_back S (Half p q w) v i j h = h
 counted_back S (Three p w) v i j h = h
 counted_back S (Cross e f w) v i j h = h
 counted_back S (Cap e w) v i j h = h
-
-weight_of : (row : Row) (v : ℕ) → weight (reweigh row v) ≡ v
-weight_of (Half p q w) v = refl
-weight_of (Three p w) v = refl
-weight_of (Cross e f w) v = refl
-weight_of (Cap e w) v = refl
-
-pub right_same : (S : List Point) (row : Row) (v : ℕ) → IsRight S row → IsRight S (reweigh row v)
-right_same S (Half p q w) v h = h
-right_same S (Three p w) v h = h
-right_same S (Cross e f w) v h = h
-right_same S (Cap e w) v h = h
 
 taken_same : (row : Row) (v i j : ℕ) → IsAtPoint row → lessened i j (reweigh row v) ≡ lessened i j row
 unfolding lessens
@@ -65,8 +46,8 @@ cond_sum false a b = refl
 
 given_more : (S : List Point) (row : Row) (more i j : ℕ) → given S i j (reweigh row (weight row + more)) ≡ given S i j row + cond (counts S row i j) more 0
 given_more S row more i j =
-    ap (λ c. cond c (weight (reweigh row (weight row + more))) 0) (counts_same S row (weight row + more) i j)
-    ∙ ap (λ w. cond (counts S row i j) w 0) (weight_of row (weight row + more))
+    ap (λ c. cond c (weight (reweigh row (weight row + more))) 0) (counts_reweigh S row (weight row + more) i j)
+    ∙ ap (λ w. cond (counts S row i j) w 0) (weight_reweigh row (weight row + more))
     ∙ cond_sum (counts S row i j) (weight row) more
 
 sum_mid : (f : Row → ℕ) (done rest : List Row) (x : Row) → sum_by f (done ++ x ∷ rest) ≡ sum_by f done + (f x + sum_by f rest)
@@ -133,7 +114,7 @@ right_mid : (S : List Point) (done rest : List Row) (old : Row) (v : ℕ) → Ar
 right_mid S done rest old v h =
     let p : All (IsRight S) done × All (IsRight S) (old ∷ rest) = append_parts (IsRight S) done (old ∷ rest) h in
     All-append (IsRight S) done (reweigh old v ∷ rest) p.0
-    (All-cons (IsRight S) (reweigh old v) rest (right_same S old v (All-head (IsRight S) old rest p.1)) (All-tail (IsRight S) old rest p.1))
+    (All-cons (IsRight S) (reweigh old v) rest (right_reweigh S old v (All-head (IsRight S) old rest p.1)) (All-tail (IsRight S) old rest p.1))
 
 pub right_old : (S : List Point) (done rest : List Row) (old : Row) → AreRight S (done ++ old ∷ rest) → IsRight S old
 right_old S done rest old h = All-head (IsRight S) old rest (append_parts (IsRight S) done (old ∷ rest) h).1

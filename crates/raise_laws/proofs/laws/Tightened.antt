@@ -13,7 +13,7 @@ use Rattle.cost_defs.specs.Costs.{Costed}
 use Rattle.price_defs.specs.Loads.{IsValid, added, lost, value}
 use Rattle.price_defs.specs.Tight.{AreCovered, IsTight}
 use Rattle.price_defs.specs.Raising.{reweigh, IsRoom, IsRaisedRow, AreRaisedFrom, AreRaised}
-use Rattle.price_defs.proofs.laws.Sums.{contains_cases, contains_here, contains_later}
+use Rattle.number_laws.proofs.ListSums.{contains_cases, contains_here, contains_later}
 use Rattle.price_defs.proofs.laws.Duality.{ceil-le}
 use Rattle.raise_laws.proofs.laws.Raises.{raised_full, raised_grows}
 use Rattle.raise_laws.specs.Laws.{Grows}

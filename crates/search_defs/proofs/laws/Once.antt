@@ -1,23 +1,14 @@
 -- The result of the price rule is one.
-use Rattle.std.proofs.Common.{◌≡◌, ◌≢◌, ◌↔◌, ℕ, zero, suc, ◌%◌, ◌<◌, ◌≤◌, ◌⊎◌, inl, inr, List, [], ◌∷◌, ◌++◌, length, get_or, Bool, true, false, sym, ◌∙◌, ap, ap₂, refl, subst, arith}
+use Rattle.std.proofs.Common.{◌≡◌, ◌≢◌, ℕ, ◌%◌, ◌⊎◌, inl, inr, List, [], ◌∷◌, ◌++◌, length, Bool, true, false, sym, ◌∙◌, ap, ap₂, refl, subst}
 use Rattle.std.specs.Prelude.{◌||◌, slice_index, ◌-◌}
-use Rattle.std.specs.List.{AllPairs, AllZip, Contains, flat_map, list_any}
-use Rattle.std.proofs.lemmas.Bool.{cases_lt, true≢false}
+use Rattle.std.specs.List.{list_any}
+use Rattle.std.proofs.lemmas.Bool.{true≢false, or_parts}
 use Rattle.plane.specs.declared.coordinates.Point.{Point}
-use Rattle.plane.specs.First.{IsFirstPair}
-use Rattle.plane.specs.Geometry.{IsBetween}
 use Rattle.price_defs.specs.declared.row.Row.{Row}
-use Rattle.price_defs.specs.declared.row.Row.TheVariants.{Half, Three}
 use Rattle.cost_defs.specs.Costs.{Costed}
-use Rattle.price_defs.specs.Floor.{IsInnerList, IsLeastCost, AreFloorRowsAt, IsFloorCertificate}
-use Rattle.price_defs.specs.Raising.{IsRaisedRow, AreRaised, IsRaisedFloor}
+use Rattle.price_defs.specs.Raising.{IsRaisedRow, AreRaised}
 use Rattle.search_defs.specs.Priced.{is_half, lowered, opened, IsLifted, IsTrial, taken_of, other_than, IsRound, AreRounds, factor, scaled, IsPriced}
-use Rattle.price_defs.proofs.laws.Sums.{contains_cases, contains_here, contains_later}
 use Rattle.raise_laws.proofs.laws.Tightened.{row_once, raised_once}
-
-or_false : (a b : Bool) → (a || b) ≡ false → (a ≡ false) × (b ≡ false)
-or_false true b h = absurd (true≢false h)
-or_false false b h = (refl, h)
 
 -- a list splits once at the first element that passes
 record SplitsOnce (b1 a1 b2 a2 : List Row) (x y : Row) : Type 0 where
@@ -28,13 +19,13 @@ record SplitsOnce (b1 a1 b2 a2 : List Row) (x y : Row) : Type 0 where
 split_once : (t : Row → Bool) (b1 a1 b2 a2 : List Row) (x y : Row) → b1 ++ x ∷ a1 ≡ b2 ++ y ∷ a2 → list_any t b1 ≡ false → list_any t b2 ≡ false → t x ≡ true → t y ≡ true → SplitsOnce b1 a1 b2 a2 x y
 split_once t [] a1 [] a2 x y e f g hx hy = record { before = refl; same = cc; after = cc }
 split_once t [] a1 (z ∷ b2) a2 x y e f g hx hy =
-    let s : x ≡ z = cc in absurd (true≢false (sym hx ∙ ap t s ∙ (or_false (t z) (list_any t b2) g).0))
+    let s : x ≡ z = cc in absurd (true≢false (sym hx ∙ ap t s ∙ (or_parts (t z) (list_any t b2) g).0))
 split_once t (z ∷ b1) a1 [] a2 x y e f g hx hy =
-    let s : z ≡ y = cc in absurd (true≢false (sym hy ∙ ap t (sym s) ∙ (or_false (t z) (list_any t b1) f).0))
+    let s : z ≡ y = cc in absurd (true≢false (sym hy ∙ ap t (sym s) ∙ (or_parts (t z) (list_any t b1) f).0))
 split_once t (z ∷ b1) a1 (w ∷ b2) a2 x y e f g hx hy =
     let s : z ≡ w = cc in
     let r : b1 ++ x ∷ a1 ≡ b2 ++ y ∷ a2 = cc in
-    let ih : SplitsOnce b1 a1 b2 a2 x y = split_once t b1 a1 b2 a2 x y r (or_false (t z) (list_any t b1) f).1 (or_false (t w) (list_any t b2) g).1 hx hy in
+    let ih : SplitsOnce b1 a1 b2 a2 x y = split_once t b1 a1 b2 a2 x y r (or_parts (t z) (list_any t b1) f).1 (or_parts (t w) (list_any t b2) g).1 hx hy in
     record { before = ap₂ (λ u v. u ∷ v) s ih.before; same = ih.same; after = ih.after }
 
 there : (t : Row → Bool) (b a : List Row) (x : Row) → t x ≡ true → list_any t (b ++ x ∷ a) ≡ true

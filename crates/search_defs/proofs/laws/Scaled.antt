@@ -20,9 +20,10 @@ use Rattle.price_defs.specs.Tight.{IsAtPoint, IsFull, IsTight}
 use Rattle.price_defs.specs.Floor.{IsInnerList}
 use Rattle.price_defs.specs.Raising.{reweigh}
 use Rattle.search_defs.specs.Priced.{is_taker, factor, scaled, IsPriced}
-use Rattle.price_defs.proofs.laws.Sums.{contains_cases, contains_here, contains_later}
+use Rattle.number_laws.proofs.ListSums.{contains_cases, contains_here, contains_later}
 use Rattle.price_defs.proofs.laws.Duality.{ceil-le}
-use Rattle.raise_laws.proofs.laws.Raises.{counted_same, right_same}
+use Rattle.raise_laws.proofs.laws.Raises.{counted_same}
+use Rattle.price_defs.proofs.laws.Reweighed.{right_reweigh}
 use Rattle.raise_laws.proofs.laws.Tightened.{AreKept, kept_covered}
 use Rattle.search_defs.proofs.laws.Trials.{rounds_good}
 use Rattle.raise_laws.specs.Laws.{IsGood}
@@ -71,7 +72,7 @@ scaled_sum g f h (row ∷ rows) =
 scaled_right : (S : List Point) (f : ℕ) (rows : List Row) → AreRight S rows → AreRight S (scaled f rows)
 scaled_right S f [] h = All-nil (IsRight S)
 scaled_right S f (row ∷ rows) h =
-    All-cons (IsRight S) (up f row) (scaled f rows) (right_same S row (weight row * f) (All-head (IsRight S) row rows h)) (scaled_right S f rows (All-tail (IsRight S) row rows h))
+    All-cons (IsRight S) (up f row) (scaled f rows) (right_reweigh S row (weight row * f) (All-head (IsRight S) row rows h)) (scaled_right S f rows (All-tail (IsRight S) row rows h))
 
 times_le : (g q c t f : ℕ) → g ≤ q * c + t → g * f ≤ (q * f) * c + t * f
 times_le g q c t f h = let k : f * g ≤ f * (q * c + t) = mul-le-mul_left f h in omega arith

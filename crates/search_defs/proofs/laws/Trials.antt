@@ -4,7 +4,7 @@ use Rattle.std.specs.Prelude.{pos, ◌≤ℤ◌, nat_le, nat_lt, not, ◌||◌, 
 use Rattle.std.specs.Int.{div_ceil}
 use Rattle.std.specs.List.{Contains, sum_by, list_any}
 use Rattle.std.proofs.lemmas.Int.{ints}
-use Rattle.std.proofs.lemmas.Bool.{leb-true, ltb-true, lt-ltb, true≢false}
+use Rattle.std.proofs.lemmas.Bool.{leb-true, ltb-true, lt-ltb, true≢false, or_parts}
 use Rattle.std.proofs.Common.{length-append}
 use Rattle.std.proofs.lemmas.List.{length-map}
 use Rattle.std.proofs.lemmas.List.Sums.{sum_by-cons, sum_by-append}
@@ -23,8 +23,9 @@ use Rattle.price_defs.specs.Floor.{IsInnerList}
 use Rattle.price_defs.specs.Raising.{reweigh, IsRaisedRow}
 use Rattle.price_defs.specs.Rows.{is_at}
 use Rattle.search_defs.specs.Priced.{is_half, lowered, opened, IsLifted, IsTrial, taken_of, other_than, IsRound, AreRounds}
-use Rattle.price_defs.proofs.laws.Sums.{contains_cases, contains_here, contains_later}
-use Rattle.raise_laws.proofs.laws.Raises.{right_same, step_of, step_valid, raised_valid}
+use Rattle.number_laws.proofs.ListSums.{contains_cases, contains_here, contains_later}
+use Rattle.raise_laws.proofs.laws.Raises.{step_of, step_valid, raised_valid}
+use Rattle.price_defs.proofs.laws.Reweighed.{right_reweigh}
 use Rattle.raise_laws.proofs.laws.Tightened.{AreKept, kept_trans, kept_covered, raised_tight}
 
 -- A certificate with the same rows up to their weights and no greater load is valid too.
@@ -42,7 +43,7 @@ abbrev low : ℕ → Row → Row
 low p row = cond (is_at p row) (reweigh row 0) row
 
 low_right : (S : List Point) (p : ℕ) (row : Row) → IsRight S row → IsRight S (low p row)
-low_right S p row h = elim (is_at p row) as (λ t. IsRight S (cond t (reweigh row 0) row)) [ true ↦ right_same S row 0 h | false ↦ h ]
+low_right S p row h = elim (is_at p row) as (λ t. IsRight S (cond t (reweigh row 0) row)) [ true ↦ right_reweigh S row 0 h | false ↦ h ]
 
 cond_nil : (c : Bool) (w : ℕ) → cond c 0 0 ≤ cond c w 0
 cond_nil true w = omega arith
@@ -126,10 +127,6 @@ pushed_valid S D q p r rows right valid few =
     (All-append (IsRight S) rows (Half p r 0 ∷ []) valid.right (All-cons (IsRight S) (Half p r 0) [] right (All-nil (IsRight S))))
     (λ i j. omega (arith, ints, sum_by-append (given S i j) rows (Half p r 0 ∷ []), sum_by-append (lessened i j) rows (Half p r 0 ∷ []), sum_by-cons (given S i j) (Half p r 0) [], sum_by-cons (lessened i j) (Half p r 0) [], nothing S p r i j, nothing_off p r i j))
 
-or_false_right : (a b : Bool) → (a || b) ≡ false → b ≡ false
-or_false_right true b h = absurd (true≢false h)
-or_false_right false b h = h
-
 not_false : (b : Bool) → not b ≡ false → b ≡ true
 not_false true h = refl
 not_false false h = absurd (true≢false h)
@@ -138,7 +135,7 @@ pub opened_valid : (S : List Point) (D : List Costed) (q p r : ℕ) (rows : List
 opened_valid S D q p r rows right valid =
     elim (list_any (is_half p r) rows || not (nat_lt (length rows) MOST_ROWS)) as (λ t. (list_any (is_half p r) rows || not (nat_lt (length rows) MOST_ROWS)) ≡ t → IsValid S D q (cond t rows (rows ++ Half p r 0 ∷ []))) [
       | true ↦ λ e. valid
-      | false ↦ λ e. pushed_valid S D q p r rows right valid (ltb-true (length rows) MOST_ROWS (not_false (nat_lt (length rows) MOST_ROWS) (or_false_right (list_any (is_half p r) rows) (not (nat_lt (length rows) MOST_ROWS)) e)))
+      | false ↦ λ e. pushed_valid S D q p r rows right valid (ltb-true (length rows) MOST_ROWS (not_false (nat_lt (length rows) MOST_ROWS) (or_parts (list_any (is_half p r) rows) (not (nat_lt (length rows) MOST_ROWS)) e).1))
     ] refl
 
 opened_kept : (p r : ℕ) (rows : List Row) → AreKept rows (opened p r rows)

@@ -8,12 +8,13 @@ use Rattle.std.proofs.lemmas.Bool.{false≢true}
 use Rattle.std.proofs.lemmas.List.Sorted.{Contains-permutation, IsPermutation-sym}
 use Rattle.std.proofs.lemmas.Map.Keys.{IsDistinct-IsPermutation}
 use Rattle.std.proofs.lemmas.Map.Made.{AllPairs-from_IsDistinct, IsDistinct-from_AllPairs}
-use Rattle.number_laws.proofs.Truth.{decides_same}
+use Rattle.std.proofs.lemmas.Bool.Decides.{same_from_decides}
 use Rattle.plane.specs.declared.segment.Pair.{Pair}
 use Rattle.partition_defs.specs.Ascending.{ComesFirst, IsAscending}
 use Rattle.partition_defs.specs.Sets.{is_same}
 use Rattle.partition_defs.proofs.laws.Sets.{Decides-same, one_way}
 use Rattle.subdivision.specs.Listing.{IsSortedFrom}
+use Rattle.partition_defs.proofs.laws.Sets.{first_trans}
 
 -- what the comparison of two segments says
 pub not_first : (a b : Pair) → is_lt (ordering_then (nat_cmp b.lo a.lo) (nat_cmp b.hi a.hi)) ≡ false → ¬ ComesFirst b a
@@ -26,7 +27,7 @@ not_first a b f (inr (level, h)) =
     false≢true (sym f ∙ ap (λ o. is_lt (ordering_then o (nat_cmp b.hi a.hi))) (sym e) ∙ ap is_lt (sym g))
 
 same_back : (e f : Pair) → is_same e f ≡ is_same f e
-same_back e f = decides_same (is_same e f) (is_same f e) (e ≡ f) (Decides-same e f) (λ t. sym ((Decides-same f e).0 t), λ h. (Decides-same f e).1 (sym h))
+same_back e f = same_from_decides (is_same e f) (is_same f e) (Decides-same e f) (λ t. sym ((Decides-same f e).0 t), λ h. (Decides-same f e).1 (sym h))
 
 pub distinct_permuted : (xs ys : List Pair) → IsPermutation xs ys → AllPairs (λ e f. e ≢ f) xs → AllPairs (λ e f. e ≢ f) ys
 distinct_permuted xs ys p d = AllPairs-from_IsDistinct Decides-same ys (IsDistinct-IsPermutation is_same same_back xs ys p (IsDistinct-from_AllPairs Decides-same xs d))
@@ -41,18 +42,12 @@ sorted_from old new p order = record {
 follows : (e f : Pair) → e ≢ f → ¬ ComesFirst f e → ComesFirst e f
 follows e f ne never = elim (one_way e f) [ inl h ↦ absurd (never h) | inr rest ↦ elim rest [ inl same ↦ absurd (ne (sym same)) | inr h ↦ h ] ]
 
-first_on : (e f g : Pair) → ComesFirst e f → ComesFirst f g → ComesFirst e g
-first_on e f g (inl a) (inl b) = inl (omega arith)
-first_on e f g (inl a) (inr b) = inl (omega (arith, b.0))
-first_on e f g (inr a) (inl b) = inl (omega (arith, a.0))
-first_on e f g (inr a) (inr b) = inr (a.0 ∙ b.0, omega (arith, a.1, b.1))
-
 -- neighbours that ascend make an ascending list
 far : (xs : List Pair) → ((k : ℕ) (d : Pair) → k + 1 < length xs → ComesFirst (get_or xs k d) (get_or xs (k + 1) d)) → (m i : ℕ) (d : Pair) → i + 1 + m < length xs → ComesFirst (get_or xs i d) (get_or xs (i + 1 + m) d)
 far xs near zero i d h = let e : i + 1 + 0 ≡ i + 1 = omega arith in subst (λ j. ComesFirst (get_or xs i d) (get_or xs j d)) (sym e) (near i d (omega arith))
 far xs near (suc m) i d h =
     let e : i + 1 + suc m ≡ i + 1 + m + 1 = omega arith in
-    subst (λ j. ComesFirst (get_or xs i d) (get_or xs j d)) (sym e) (first_on (get_or xs i d) (get_or xs (i + 1 + m) d) (get_or xs (i + 1 + m + 1) d) (far xs near m i d (omega arith)) (near (i + 1 + m) d (omega arith)))
+    subst (λ j. ComesFirst (get_or xs i d) (get_or xs j d)) (sym e) (first_trans (get_or xs i d) (get_or xs (i + 1 + m) d) (get_or xs (i + 1 + m + 1) d) (far xs near m i d (omega arith)) (near (i + 1 + m) d (omega arith)))
 
 pub sorted_ascends : (old new : List Pair) → AllPairs (λ e f. e ≢ f) old → IsSortedFrom old new → IsAscending new
 sorted_ascends old new distinct so i j d ij hj =

@@ -1,4 +1,4 @@
-use Rattle.std.proofs.Common.{◌<◌, length, subst, arith}
+use Rattle.std.proofs.Common.{◌<◌, arith}
 use Rattle.directions.proofs.Found.{none_found, first_found}
 use Rattle.directions.proofs.finding.first_pair.Goals as goal
 

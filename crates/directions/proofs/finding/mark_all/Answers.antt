@@ -1,7 +1,7 @@
-use Rattle.std.proofs.Common.{◌≡◌, ◌%◌, ◌+◌, ℕ, Vec, Global, List, length, set, sym, ◌∙◌, ap, subst, arith}
+use Rattle.std.proofs.Common.{◌≡◌, ◌%◌, ◌+◌, ℕ, Vec, Global, List, set, sym, ◌∙◌, ap, subst, arith}
 use Rattle.directions.specs.Key.{line_key}
 use Rattle.directions.specs.Opposites.{IsBumped, AreMarked}
-use Rattle.directions.proofs.Found.{marked_more, marked_less, marked_none}
+use Rattle.directions.proofs.Found.{marked_more, marked_less}
 use Rattle.directions.proofs.finding.mark_all.Goals as goal
 use Rattle.directions.proofs.finding.mark_all.Goals.{then-q-p, else-q-p}
 

@@ -1,7 +1,7 @@
-use Rattle.std.proofs.Common.{◌≡◌, ◌≤◌, ℕ, List, sym, subst, arith}
+use Rattle.std.proofs.Common.{List, sym, subst}
 use Rattle.price_defs.specs.declared.row.Row.{Row}
 use Rattle.price_defs.specs.Loads.{IsValid, value}
-use Rattle.price_defs.specs.Floor.{IsFloor, IsFloorCertificate}
+use Rattle.price_defs.specs.Floor.{IsFloor}
 use Rattle.price_defs.specs.Tight.{AreCovered}
 use Rattle.raise_laws.proofs.laws.Floored.{floor_valid, floor_covered, floor_value}
 use Rattle.dual_prices.proofs.Floors.{floor_all}

@@ -1,4 +1,4 @@
-use Rattle.std.proofs.Common.{◌≡◌, ◌+◌, List, Vec, Global, sym, ◌∙◌, ap, subst, arith}
+use Rattle.std.proofs.Common.{◌+◌, Vec, Global, sym, ◌∙◌, ap, subst}
 use Rattle.std.proofs.lemmas.Bool.{false≢true}
 use Rattle.price_defs.specs.declared.row.Row.{Row}
 use Rattle.dual_prices.specs.Floors.{AreFloorRowsBelow}

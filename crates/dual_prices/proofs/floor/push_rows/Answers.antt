@@ -1,7 +1,7 @@
-use Rattle.std.proofs.Common.{◌≡◌, ℕ, Option, length, sym, ◌∙◌, ap, subst, arith}
+use Rattle.std.proofs.Common.{ℕ, Option, length, subst}
 use Rattle.plane.specs.First.{IsFirstPairOrNone}
 use Rattle.plane.specs.Geometry.{IsBetween}
-use Rattle.dual_prices.proofs.Floors.{three_rows, half_rows}
+use Rattle.dual_prices.proofs.Floors.{three_rows}
 use Rattle.dual_prices.proofs.floor.push_rows.Goals as goal
 
 pub returns-in_ok-push-in-None-clause-rows : goal.returns-in_ok-push-in-None-clause-rows

@@ -1,4 +1,4 @@
-use Rattle.std.proofs.Common.{◌≡◌, ◌<◌, ℕ, ℤ, pos, neg_ℤ, length, to_z, of_z, w64, sym, ◌∙◌, refl, subst, arith}
+use Rattle.std.proofs.Common.{◌≡◌, ℤ, pos, neg_ℤ, length, to_z, of_z, w64, sym, refl, subst, arith}
 use Rattle.std.specs.Prelude.{◌-ℤ◌}
 use Rattle.std.proofs.lemmas.Int.{ints}
 use Rattle.price_defs.specs.declared.row.Row.{Row}

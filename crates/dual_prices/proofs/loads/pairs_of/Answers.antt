@@ -1,4 +1,3 @@
-use Rattle.std.proofs.Common.{sym, ◌∙◌, ap, arith}
 use Rattle.dual_prices.proofs.Tables.{tri_half}
 use Rattle.dual_prices.proofs.loads.pairs_of.Goals as goal
 

@@ -1,4 +1,4 @@
-use Rattle.std.proofs.Common.{◌≡◌, ℕ, ℤ, length, to_z, of_z, w64, sym, ◌∙◌, subst, arith}
+use Rattle.std.proofs.Common.{◌≡◌, ℤ, length, to_z, of_z, w64, sym, ◌∙◌, subst, arith}
 use Rattle.std.proofs.lemmas.Int.{ints}
 use Rattle.dual_prices.specs.Tables.{IsShifted}
 use Rattle.dual_prices.proofs.Rooms.{not_counted, is_counted}

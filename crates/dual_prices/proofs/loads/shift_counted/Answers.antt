@@ -1,4 +1,4 @@
-use Rattle.std.proofs.Common.{◌≡◌, ℕ, ℤ, length, to_z, of_z, w64, subst, arith}
+use Rattle.std.proofs.Common.{◌≡◌, ℤ, length, to_z, of_z, w64, subst, arith}
 use Rattle.std.proofs.lemmas.Int.{ints}
 use Rattle.dual_prices.specs.Tables.{IsPartlyAdded}
 use Rattle.dual_prices.proofs.Tables.{part_small_at}

@@ -1,5 +1,4 @@
-use Rattle.std.proofs.Common.{ap, arith}
-use Rattle.dual_prices.specs.Tables.{tri}
+use Rattle.std.proofs.Common.{arith}
 use Rattle.dual_prices.proofs.Tables.{tri_small}
 use Rattle.dual_prices.proofs.loads.slot_of.Goals as goal
 

@@ -1,4 +1,4 @@
-use Rattle.std.proofs.Common.{◌≡◌, ℕ, ◌+◌, Option, Some, length, sym, subst, arith}
+use Rattle.std.proofs.Common.{◌≡◌, ◌+◌, Some, length, sym, subst}
 use Rattle.dual_prices.specs.Rooms.{IsLeastRoom}
 use Rattle.dual_prices.proofs.Rooms.{no_room, zero_is}
 use Rattle.dual_prices.proofs.raising.least_room.Goals as goal

@@ -1,4 +1,4 @@
-use Rattle.std.proofs.Common.{◌≡◌, ℕ, ◌+◌, Option, sym, ◌∙◌, subst, arith}
+use Rattle.std.proofs.Common.{◌+◌, sym, ◌∙◌, subst}
 use Rattle.std.proofs.lemmas.Bool.{false≢true}
 use Rattle.dual_prices.specs.Rooms.{IsLeastRoom}
 use Rattle.dual_prices.proofs.Rooms.{not_below, below, room_taken, room_kept, room_pass}

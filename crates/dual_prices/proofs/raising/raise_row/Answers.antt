@@ -1,4 +1,4 @@
-use Rattle.std.proofs.Common.{◌≡◌, ◌≤◌, ◌<◌, ◌+◌, ℕ, List, Some, None, length, get_or, set, sym, ◌∙◌, ap, ap₂, subst, refl, arith}
+use Rattle.std.proofs.Common.{◌≡◌, ◌≤◌, ◌+◌, ℕ, List, Some, get_or, set, sym, ◌∙◌, ap, ap₂, arith}
 use Rattle.std.specs.List.{Contains}
 use Rattle.std.proofs.lemmas.List.{get_or_default}
 use Rattle.std.proofs.lemmas.List.Elements.{All-contains}
@@ -6,7 +6,6 @@ use Rattle.price_defs.specs.declared.row.Row.{Row}
 use Rattle.price_defs.specs.declared.row.Row.TheVariants.{Three}
 use Rattle.price_defs.specs.Rows.{IsRight, row_at, stand, weight}
 use Rattle.price_defs.specs.Raising.{reweigh, IsRoom}
-use Rattle.dual_prices.specs.Rooms.{IsLeastRoom}
 use Rattle.dual_prices.proofs.InPlace.{at_stand, stand_in, room_of, raised_small, some_candidate, raised_by}
 use Rattle.dual_prices.proofs.raising.raise_row.Goals as goal
 

@@ -1,5 +1,4 @@
-use Rattle.std.proofs.Common.{◌≡◌, ◌+◌, ℕ, List, length, sym, ◌∙◌, ap, subst, arith}
-use Rattle.price_defs.specs.declared.row.Row.{Row}
+use Rattle.std.proofs.Common.{sym, ◌∙◌, subst}
 use Rattle.price_defs.specs.Limits.{AreLight}
 use Rattle.dual_prices.proofs.InPlace.{valid_light, raising_more, raised_length}
 use Rattle.dual_prices.proofs.raising.raised.Goals as goal

@@ -1,4 +1,4 @@
-use Rattle.std.proofs.Common.{◌≡◌, ◌≤◌, ◌*◌, ◌+◌, ℕ, List, take, sym, subst, arith}
+use Rattle.std.proofs.Common.{◌≡◌, ◌≤◌, ◌*◌, ◌+◌, ℕ, List, take, sym, subst}
 use Rattle.std.specs.List.{sum_by}
 use Rattle.plane.specs.declared.segment.Pair.{Pair}
 use Rattle.price_defs.specs.Loads.{takes}

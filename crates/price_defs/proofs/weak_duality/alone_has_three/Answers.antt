@@ -1,5 +1,5 @@
 use Rattle.plane.specs.Accepted.{AreAccepted}
-use Rattle.price_defs.proofs.laws.Sides.{three_at}
+use Rattle.price_defs.proofs.laws.Three.{three_at}
 use Rattle.price_defs.proofs.weak_duality.alone_has_three.Goals as goal
 
 pub returns : goal.returns

@@ -1,5 +1,5 @@
 use Rattle.plane.specs.Accepted.{AreAccepted}
-use Rattle.price_defs.proofs.laws.Nearest.{counts_some}
+use Rattle.price_defs.proofs.laws.Counting.{counts_some}
 use Rattle.price_defs.proofs.weak_duality.row_counts_some.Goals as goal
 
 pub returns : goal.returns

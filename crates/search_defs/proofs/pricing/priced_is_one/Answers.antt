@@ -1,4 +1,4 @@
-use Rattle.std.proofs.Common.{◌≡◌, ℕ, List, subst}
+use Rattle.std.proofs.Common.{ℕ, List, subst}
 use Rattle.raise_laws.proofs.laws.Once.{inner_once}
 use Rattle.search_defs.specs.Priced.{IsPriced}
 use Rattle.search_defs.specs.Words.{round_words}

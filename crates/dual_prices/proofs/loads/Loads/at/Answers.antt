@@ -1,9 +1,9 @@
-use Rattle.std.proofs.Common.{◌≡◌, ◌<◌, ℕ, ℤ, List, length, get_or, pos, sym, ◌∙◌, ap, subst, arith}
+use Rattle.std.proofs.Common.{◌≡◌, ◌<◌, length, pos, ◌∙◌, ap, arith}
 use Rattle.std.proofs.lemmas.Int.{ints}
 use Rattle.std.proofs.lemmas.List.{get_or_default}
 use Rattle.price_defs.specs.Loads.{load}
 use Rattle.dual_prices.specs.Kept.{Loaded}
-use Rattle.dual_prices.specs.Tables.{tri, slot, entry}
+use Rattle.dual_prices.specs.Tables.{tri, entry}
 use Rattle.dual_prices.proofs.Tables.{slot_in}
 use Rattle.dual_prices.proofs.loads.Loads.at.Goals as goal
 

@@ -1,4 +1,4 @@
-use Rattle.std.proofs.Common.{◌∙◌, sym, arith}
+use Rattle.std.proofs.Common.{arith}
 use Rattle.price_defs.proofs.laws.Values.{gives_le}
 use Rattle.point_rows.proofs.Chains.{gives_parts}
 use Rattle.point_rows.proofs.point_rows.PointRows.gives.Goals as goal

@@ -1,36 +1,26 @@
--- The nearest point on a ray, and that each right row counts a clear pair.
-use Rattle.std.proofs.Common.{◌≡◌, ◌≢◌, ℕ, zero, suc, ◌<◌, ◌≤◌, ◌⊎◌, inl, inr, ℤ, pos, neg_ℤ, List, length, sym, ◌∙◌, ap, refl, subst, arith}
-use Rattle.std.specs.Prelude.{◌<ℤ◌, ◌≤ℤ◌, ◌-ℤ◌, true, false}
-use Rattle.std.proofs.lemmas.Bool.{cases_lt}
+-- The nearest point on a ray, and a point to the left of each line through an inner point.
+use Rattle.std.proofs.Common.{◌≡◌, ◌≢◌, ℕ, zero, suc, ◌<◌, ◌≤◌, ◌⊎◌, inl, inr, ℤ, pos, neg_ℤ, List, length, sym, refl, subst, arith}
+use Rattle.std.specs.Prelude.{◌<ℤ◌, ◌≤ℤ◌, ◌-ℤ◌}
 use Rattle.std.proofs.lemmas.Int.{ints}
 use Rattle.plane.specs.declared.coordinates.Point.{Point}
 use Rattle.plane.specs.Geometry.{point, area, scalar, orientation, LiesBetween, IsBetween, IsClear, IsInner}
 use Rattle.plane.specs.Accepted.{AreAccepted}
-use Rattle.plane.proofs.laws.Along.{between_swap, other_side, other_side_right}
-use Rattle.plane.proofs.laws.Area.{area_cycle, area_back}
-use Rattle.number_laws.proofs.Signs.{by_sign, zero_right}
+use Rattle.plane.proofs.laws.Line.{same_point}
+use Rattle.plane.proofs.laws.Along.{between_swap, between_or_not, other_side, other_side_right}
+use Rattle.plane.proofs.laws.Area.{area_cycle, area_swap, area_back}
+use Rattle.plane.proofs.laws.Border.{points_differ}
+use Rattle.number_laws.proofs.Naturals.{below_or_last}
+use Rattle.number_laws.proofs.Signs.{by_sign, zero_right, not_positive, square_at_least}
 use Rattle.plane_laws.specs.Order.{IsBefore}
+use Rattle.plane_laws.proofs.Order.{before_trans}
 use Rattle.plane_laws.proofs.Orientations.{area_four, in_line}
 use Rattle.plane_laws.proofs.Between.{by_order, between_is_amid, amid_is_between}
-use Rattle.price_defs.specs.Laws.{CountsSome}
-use Rattle.price_defs.specs.declared.row.Row.{Row}
-use Rattle.price_defs.specs.declared.row.Row.TheVariants.{Half, Three, Cross, Cap}
-use Rattle.price_defs.specs.Rows.{IsRight, Counts, is_between}
-use Rattle.price_defs.proofs.laws.Tests.{is_between_decides}
-use Rattle.std.proofs.lemmas.Bool.{false≢true}
-use Rattle.price_defs.specs.Tight.{IsAtPoint}
-use Rattle.price_defs.proofs.laws.Sides.{between_turned, clear_turned}
 
-pub before_trans : (a b c : Point) → IsBefore a b → IsBefore b c → IsBefore a c
-before_trans a b c (inl h) (inl k) = inl (omega (arith, ints))
-before_trans a b c (inl h) (inr k) = inl (omega (arith, ints, k.0))
-before_trans a b c (inr h) (inl k) = inl (omega (arith, ints, h.0))
-before_trans a b c (inr h) (inr k) = inr (omega (arith, ints, h.0, k.0), omega (arith, ints, h.1, k.1))
-
+-- the areas of a line's points, with p first
 back_zero : (p k r : Point) → area p k r ≡ pos 0 → area p r k ≡ pos 0
 back_zero p k r h = omega (arith, ints, area_cycle k p r, area_back p k r)
 
--- where p comes before r: a point between p and one between p and r is between p and r
+-- the same where p comes before r
 between_nearer_up : (p j k r : Point) → IsBefore p r → LiesBetween k p r → LiesBetween j p k → LiesBetween j p r
 between_nearer_up p j k r b hk hj =
     let ak : IsBefore p k × IsBefore k r = between_is_amid k p r b hk.0 hk.1 in
@@ -52,29 +42,10 @@ between_nearer_down p j k r b hk hj =
     let line : area r j p ≡ pos 0 = omega (arith, ints, area_four r k j p, area_four r j k p, sk.0, sj.0, area_cycle r k j, area_cycle k j r, area_cycle j r k, area_back r j k, area_back r k j, line4, area_cycle j k p, area_cycle k p j, area_back j k p, line3) in
     between_swap j r p (line, amid_is_between j r p (before_trans r k j ak.0 aj.0) aj.1 line)
 
-pub same_place : (a b : Point) → a.x ≡ b.x → a.y ≡ b.y → a ≡ b
-same_place a b hx hy = ap (λ (x : ℤ). let p : Point = record { x = x; y = a.y } in p) hx ∙ ap (λ (y : ℤ). let p : Point = record { x = b.x; y = y } in p) hy
-
+-- a point between p and one between p and r is between p and r
 pub between_nearer : (p j k r : Point) → p ≢ r → LiesBetween k p r → LiesBetween j p k → LiesBetween j p r
 between_nearer p j k r apart hk hj =
-    by_order p r (λ b. between_nearer_up p j k r b hk hj) (λ ex ey. absurd (apart (same_place p r ex ey))) (λ b. between_nearer_down p j k r b hk hj)
-
-points_apart : (S : List Point) (i j : ℕ) → AreAccepted S → i < length S → j < length S → i ≢ j → point S i ≢ point S j
-points_apart S i j ok hi hj ne e =
-    elim (cases_lt i j) [
-      | inl h ↦ ok.apart i j h hj e
-      | inr h ↦ elim (cases_lt j i) [ inl k ↦ ok.apart j i k hi (sym e) | inr k ↦ ne (omega arith) ]
-    ]
-
-cases_between : (S : List Point) (p q r : ℕ) → IsBetween S p q r ⊎ ¬ IsBetween S p q r
-cases_between S p q r =
-    elim (is_between S p q r) as (λ t. is_between S p q r ≡ t → IsBetween S p q r ⊎ ¬ IsBetween S p q r) [
-      | true ↦ λ e. inl ((is_between_decides S p q r).0 e)
-      | false ↦ λ e. inr (λ h. false≢true (sym e ∙ (is_between_decides S p q r).1 h))
-    ] refl
-
-below_suc : (j k : ℕ) → j < suc k → (j < k) ⊎ (j ≡ k)
-below_suc j k h = elim (cases_lt j k) [ inl l ↦ inl l | inr l ↦ inr (omega arith) ]
+    by_order p r (λ b. between_nearer_up p j k r b hk hj) (λ ex ey. absurd (apart (same_point p r ex ey))) (λ b. between_nearer_down p j k r b hk hj)
 
 -- b is r or on the way from p to r
 abbrev pub IsOnWay : List Point → (p r b : ℕ) → Type 0
@@ -88,32 +59,42 @@ record IsNearest (S : List Point) (p r k : ℕ) : Type 0 where
   pub way : IsOnWay S p r b
   pub none : (j : ℕ) → j < k → ¬ IsBetween S j p b
 
+scalar_square : (p q : Point) → pos 0 ≤ℤ scalar p q q
+unfolding scalar
+scalar_square p q = omega (arith, ints, square_at_least (q.x -ℤ p.x), square_at_least (q.y -ℤ p.y))
+
+-- no point is between another and this one itself
+pub not_between_one : (p q : Point) → ¬ LiesBetween p q q
+not_between_one p q h = omega (arith, ints, h.1, scalar_square p q)
+
+-- a step has no length along the step to its own start
 scalar_itself : (k a : Point) → scalar k a k ≡ pos 0
 unfolding scalar
 scalar_itself k a = omega (arith, ints, zero_right (a.x -ℤ k.x) (k.x -ℤ k.x) (omega (arith, ints)), zero_right (a.y -ℤ k.y) (k.y -ℤ k.y) (omega (arith, ints)))
 
-not_itself : (S : List Point) (p b : ℕ) → ¬ IsBetween S b p b
-not_itself S p b h = omega (arith, ints, h.1, scalar_itself (point S b) (point S p))
+-- no end of a segment is strictly between its ends
+pub not_second_end : (S : List Point) (p b : ℕ) → ¬ IsBetween S p b p
+not_second_end S p b h = omega (arith, ints, h.1, scalar_itself (point S p) (point S b))
 
-pub not_end : (S : List Point) (p b : ℕ) → ¬ IsBetween S p p b
-not_end S p b h = not_itself S b p (between_turned S p p b h)
+pub not_first_end : (S : List Point) (p b : ℕ) → ¬ IsBetween S p p b
+not_first_end S p b h = not_second_end S p b (between_swap (point S p) (point S p) (point S b) h)
 
 nearest_below : (S : List Point) (p r k : ℕ) → AreAccepted S → p < length S → r < length S → r ≢ p → k ≤ length S → IsNearest S p r k
 nearest_below S p r zero ok pn rn ne h = record { b = r; within = rn; apart = ne; way = inl refl; none = λ j l. absurd (omega arith) }
 nearest_below S p r (suc k) ok pn rn ne h =
     let s : IsNearest S p r k = nearest_below S p r k ok pn rn ne (omega arith) in
-    elim (cases_between S k p s.b) [
+    elim (between_or_not S k p s.b) [
       | inl hit ↦ record {
         b = k;
         within = omega arith;
-        apart = λ e. not_end S p s.b (subst (λ x. IsBetween S x p s.b) e hit);
+        apart = λ e. not_first_end S p s.b (subst (λ x. IsBetween S x p s.b) e hit);
         way = inr (elim s.way [
           | inl e ↦ subst (λ x. IsBetween S k p x) e hit
-          | inr w ↦ between_nearer (point S p) (point S k) (point S s.b) (point S r) (points_apart S p r ok pn rn (λ e. ne (sym e))) w hit
+          | inr w ↦ between_nearer (point S p) (point S k) (point S s.b) (point S r) (points_differ S p r ok.apart pn rn (λ e. ne (sym e))) w hit
         ]);
-        none = λ j l. elim (below_suc j k l) [
-          | inl m ↦ λ g. s.none j m (between_nearer (point S p) (point S j) (point S k) (point S s.b) (points_apart S p s.b ok pn s.within (λ e. s.apart (sym e))) hit g)
-          | inr e ↦ λ g. not_itself S p k (subst (λ x. IsBetween S x p k) e g)
+        none = λ j l. elim (below_or_last j k (omega (arith, l))) [
+          | inl m ↦ λ g. s.none j m (between_nearer (point S p) (point S j) (point S k) (point S s.b) (points_differ S p s.b ok.apart pn s.within (λ e. s.apart (sym e))) hit g)
+          | inr e ↦ λ g. not_second_end S k p (subst (λ x. IsBetween S x p k) e g)
         ];
       }
       | inr miss ↦ record {
@@ -121,7 +102,7 @@ nearest_below S p r (suc k) ok pn rn ne h =
         within = s.within;
         apart = s.apart;
         way = s.way;
-        none = λ j l. elim (below_suc j k l) [ inl m ↦ s.none j m | inr e ↦ λ g. miss (subst (λ x. IsBetween S x p s.b) e g) ];
+        none = λ j l. elim (below_or_last j k (omega (arith, l))) [ inl m ↦ s.none j m | inr e ↦ λ g. miss (subst (λ x. IsBetween S x p s.b) e g) ];
       }
     ]
 
@@ -165,26 +146,17 @@ below_left S p q (suc k) h =
       | inl f ↦ inl f
       | inr f ↦ by_sign (orientation S p q k)
           (λ g. inl (k, omega arith, g))
-          (λ g. inr (λ r l. elim (below_suc r k l) [ inl m ↦ f r m | inr e ↦ subst (λ x. orientation S p q x ≤ℤ pos 0) (sym e) (omega (arith, ints)) ]))
-          (λ g. inr (λ r l. elim (below_suc r k l) [ inl m ↦ f r m | inr e ↦ subst (λ x. orientation S p q x ≤ℤ pos 0) (sym e) (omega (arith, ints)) ]))
+          (λ g. inr (λ r l. elim (below_or_last r k (omega (arith, l))) [ inl m ↦ f r m | inr e ↦ subst (λ x. orientation S p q x ≤ℤ pos 0) (sym e) (omega (arith, ints)) ]))
+          (λ g. inr (λ r l. elim (below_or_last r k (omega (arith, l))) [ inl m ↦ f r m | inr e ↦ subst (λ x. orientation S p q x ≤ℤ pos 0) (sym e) (omega (arith, ints)) ]))
     ]
-
-turned_sign : (p q r : Point) → area q p r ≡ neg_ℤ (area p q r)
-turned_sign p q r = area_back q p r
-
-back_sign : (p q r : Point) → area p r q ≡ neg_ℤ (area p q r)
-back_sign p q r = omega (arith, ints, area_cycle q p r, area_back p q r)
-
-not_above : (x : ℤ) → (pos 0 <ℤ x → ⊥) → x ≤ℤ pos 0
-not_above x f = by_sign x (λ h. absurd (f h)) (λ h. omega (arith, ints)) (λ h. omega (arith, ints))
 
 -- with no point strictly left of p to q, none is strictly left of p to the nearest point on the way
 none_left : (S : List Point) (p q b r : ℕ) → IsOnWay S p q b → orientation S p q r ≤ℤ pos 0 → orientation S p b r ≤ℤ pos 0
 none_left S p q b r (inl e) h = subst (λ x. orientation S p x r ≤ℤ pos 0) (sym e) h
 none_left S p q b r (inr w) h =
-    not_above (orientation S p b r) (λ g.
-    let down : area (point S p) (point S r) (point S b) <ℤ pos 0 = omega (arith, ints, back_sign (point S p) (point S b) (point S r)) in
-    let up : orientation S p r q ≡ neg_ℤ (orientation S p q r) = back_sign (point S p) (point S q) (point S r) in
+    not_positive (orientation S p b r) (λ g.
+    let down : area (point S p) (point S r) (point S b) <ℤ pos 0 = omega (arith, ints, area_swap (point S p) (point S r) (point S b)) in
+    let up : orientation S p r q ≡ neg_ℤ (orientation S p q r) = area_swap (point S p) (point S r) (point S q) in
     by_sign (area (point S b) (point S r) (point S q))
     (λ s. let t : area (point S b) (point S r) (point S p) <ℤ pos 0 = other_side_right (point S b) (point S p) (point S q) (point S r) w s in
     omega (arith, ints, area_cycle (point S b) (point S r) (point S p), area_cycle (point S r) (point S p) (point S b), area_back (point S p) (point S r) (point S b), area_back (point S b) (point S r) (point S p)))
@@ -196,44 +168,5 @@ left_of_inner S p q ok pn qn ne inner =
     elim (below_left S p q (length S) (omega arith)) [
       | inl h ↦ h
       | inr f ↦ (let b : HasNearest S p q = nearest S p q ok pn qn ne in
-          absurd (inner b.b b.within b.apart (b.clear, inr (λ k l. (let g : orientation S p b.b k ≤ℤ pos 0 = none_left S p q b.b k b.way (f k l) in omega (arith, ints, turned_sign (point S p) (point S b.b) (point S k)))))))
+          absurd (inner b.b b.within b.apart (b.clear, inr (λ k l. (let g : orientation S p b.b k ≤ℤ pos 0 = none_left S p q b.b k b.way (f k l) in omega (arith, ints, area_back (point S b.b) (point S p) (point S k)))))))
     ]
-
-pub counts_turned : (S : List Point) (row : Row) (i j : ℕ) → Counts S row i j → Counts S row j i
-counts_turned S (Half p q w) i j (inl h) = inr h
-counts_turned S (Half p q w) i j (inr h) = inl h
-counts_turned S (Three p w) i j (inl h) = inr h
-counts_turned S (Three p w) i j (inr h) = inl h
-counts_turned S (Cross e f w) i j h = h
-counts_turned S (Cap e w) i j h = h
-
-in_order : (S : List Point) (row : Row) (p b : ℕ) → p < length S → b < length S → b ≢ p → IsClear S p b → Counts S row p b → CountsSome S row
-in_order S row p b pn bn ne c h =
-    elim (cases_lt p b) [
-      | inl l ↦ record { i = p; j = b; ordered = l; within = bn; clear = c; counted = h }
-      | inr l ↦ elim (cases_lt b p) [
-        | inl m ↦ record { i = b; j = p; ordered = m; within = pn; clear = clear_turned S p b c; counted = counts_turned S row p b h }
-        | inr m ↦ absurd (ne (omega arith))
-      ]
-    ]
-
-another : (n p : ℕ) → 3 ≤ n → (q : ℕ) × (q < n) × (q ≢ p)
-another n zero h = (1, omega arith, λ e. absurd (omega arith))
-another n (suc p) h = (0, omega arith, λ e. absurd (omega arith))
-
--- Each right Half or Three row counts a clear pair.
-pub counts_some : (S : List Point) (row : Row) → AreAccepted S → IsRight S row → IsAtPoint row → CountsSome S row
-counts_some S (Half p q w) ok (pn, qn, ne, inner) t =
-    let r : (r : ℕ) × (r < length S) × (pos 0 <ℤ orientation S p q r) = left_of_inner S p q ok pn qn ne inner in
-    let apart : r.0 ≢ p = λ e. not_left_of_itself (point S p) (point S q) (subst (λ x. pos 0 <ℤ orientation S p q x) e r.2) in
-    let b : HasNearest S p r.0 = nearest S p r.0 ok pn r.1 apart in
-    in_order S (Half p q w) p b.b pn b.within b.apart b.clear (inl (refl, (b.apart, inl ((sign_on_way S p q r.0 b.b b.way).0 r.2))))
-  where
-    not_left_of_itself : (p q : Point) → ¬ pos 0 <ℤ area p q p
-    not_left_of_itself p q h = omega (arith, ints, area_cycle p q p, area_back p p q, area_cycle p p q, area_cycle q p p)
-counts_some S (Three p w) ok (pn, inner, alone) t =
-    let q : (q : ℕ) × (q < length S) × (q ≢ p) = another (length S) p ok.count.0 in
-    let b : HasNearest S p q.0 = nearest S p q.0 ok pn q.1 q.2 in
-    in_order S (Three p w) p b.b pn b.within b.apart b.clear (inl refl)
-counts_some S (Cross e f w) ok right t = absurd t
-counts_some S (Cap e w) ok right t = absurd t

@@ -1,21 +1,20 @@
 -- The cost of the border pairs, step by step along the border.
-use Rattle.std.proofs.Common.{◌≡◌, ◌≢◌, ◌↔◌, ℕ, ◌+◌, ◌*◌, ◌<◌, ◌≤◌, ◌⊎◌, inl, inr, List, [], ◌∷◌, length, min, max, sym, ◌∙◌, ap, subst, arith}
-use Rattle.std.specs.List.{All, AllPairs, Contains, sum_by}
+use Rattle.std.proofs.Common.{◌≡◌, ◌≢◌, ℕ, ◌+◌, ◌<◌, ◌≤◌, inl, inr, List, [], ◌∷◌, length, min, max, sym, ◌∙◌, subst, arith}
 use Rattle.std.proofs.lemmas.Bool.{cases_lt}
 use Rattle.std.proofs.lemmas.List.Elements.{Contains-get_or}
 use Rattle.std.proofs.lemmas.List.Kept.{AllPairs-cons}
 use Rattle.std.proofs.lemmas.List.Sums.{sum_by-cons}
 use Rattle.plane.specs.declared.coordinates.Point.{Point}
-use Rattle.plane.specs.declared.coordinates.Turn.TheVariants.{Left, Right}
+use Rattle.plane.specs.declared.coordinates.Turn.TheVariants.{Left}
 use Rattle.plane.specs.declared.segment.Pair.{Pair}
 use Rattle.plane.specs.Accepted.{AreAccepted}
 use Rattle.plane.specs.Geometry.{IsBorderPair}
 use Rattle.plane.specs.Hull.{IsBorderStep}
 use Rattle.plane.proofs.laws.Border.{step_of_border, border_of_left, border_back, left_step_once, left_of_right}
 use Rattle.partition_defs.specs.Partition.{HasEnds, Joins}
-use Rattle.partition_defs.specs.Triangulation.{AreDistinct, IsBorderList}
+use Rattle.partition_defs.specs.Triangulation.{IsBorderList}
 use Rattle.partition_defs.proofs.laws.Has.{has_of, contains_of}
-use Rattle.partition_defs.proofs.laws.Joined.{joined, joins_of, join_back, ends_back, ends_of_new}
+use Rattle.partition_defs.proofs.laws.Joined.{joined, joins_of, join_back, ends_of_new}
 use Rattle.cost_defs.specs.Costs.{Costed, cost, total}
 use Rattle.number_laws.proofs.ListSums.{contains_cases, contains_here, contains_later}
 use Rattle.price_defs.proofs.laws.Duality.{border_cost_once}

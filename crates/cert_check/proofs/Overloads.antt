@@ -1,11 +1,10 @@
 -- Pairs with more than is allowed, one after the other.
-use Rattle.std.proofs.Common.{◌≡◌, ℕ, ◌+◌, ◌*◌, ◌<◌, ◌≤◌, inl, inr, ℤ, pos, List, length, min, max, Option, Some, None, sym, ◌∙◌, subst, arith}
+use Rattle.std.proofs.Common.{◌≡◌, ℕ, ◌+◌, ◌*◌, ◌<◌, ◌≤◌, inl, inr, ℤ, pos, List, length, min, max, Some, None, sym, ◌∙◌, subst, arith}
 use Rattle.std.specs.Prelude.{◌-ℤ◌}
 use Rattle.std.proofs.lemmas.Bool.{cases_lt}
 use Rattle.std.proofs.lemmas.Int.{ints}
 use Rattle.plane.specs.declared.coordinates.Point.{Point}
 use Rattle.plane.specs.declared.segment.Pair.{Pair}
-use Rattle.plane.specs.First.{IsFirstPair}
 use Rattle.plane.specs.Geometry.{IsClear}
 use Rattle.cost_defs.specs.Costs.{Costed, cost}
 use Rattle.price_defs.specs.declared.row.Row.{Row}

@@ -1,13 +1,13 @@
 -- What is known of points, and the check's answers.
-use Rattle.std.proofs.Common.{◌≡◌, ◌≢◌, ◌↔◌, ℕ, ◌+◌, ◌*◌, ◌<◌, ◌≤◌, ◌⊎◌, inl, inr, ℤ, pos, List, [], ◌∷◌, ◌++◌, length, get_or, set, Bool, true, false, IsTrue, Option, Some, None, Result, Ok, Err, sym, ◌∙◌, ap, subst, refl, arith, length-append}
+use Rattle.std.proofs.Common.{◌≡◌, ◌≢◌, ◌↔◌, ℕ, ◌+◌, ◌*◌, ◌<◌, ◌≤◌, inl, inr, ℤ, pos, List, [], ◌∷◌, ◌++◌, length, get_or, set, Bool, false, IsTrue, Option, Some, None, Result, Ok, Err, sym, ◌∙◌, ap, subst, arith, length-append}
 use Rattle.std.specs.Prelude.{◌<ℤ◌, ◌≤ℤ◌}
-use Rattle.std.proofs.lemmas.Bool.{cases_lt, false≢true}
+use Rattle.std.proofs.lemmas.Bool.{cases_lt}
 use Rattle.std.proofs.lemmas.Int.{ints}
 use Rattle.std.proofs.lemmas.List.{length-set, get_or_append_left, get_or_default, get_or-set_same, get_or-set_other}
 use Rattle.std.proofs.Math.Seq.{get_or-append_seam}
 use Rattle.plane.specs.declared.coordinates.Point.{Point}
-use Rattle.plane.specs.First.{IsFirstPair, IsLeast}
-use Rattle.plane.specs.Geometry.{IsBetween, IsClear, IsBorderPair, IsInner}
+use Rattle.plane.specs.First.{IsFirstPair}
+use Rattle.plane.specs.Geometry.{IsBetween, IsInner}
 use Rattle.cost_defs.specs.Costs.{Costed, cost}
 use Rattle.price_defs.specs.declared.row.Row.{Row}
 use Rattle.price_defs.specs.declared.row.Row.TheVariants.{Half, Three}
@@ -16,7 +16,7 @@ use Rattle.price_defs.specs.Rows.{IsRight, AreRight, IsAlone}
 use Rattle.price_defs.specs.Limits.{IsIndexed}
 use Rattle.price_defs.specs.Loads.{load, IsValid}
 use Rattle.price_defs.specs.Faults.{IsOver, IsBadRow}
-use Rattle.cert_check.specs.Shapes.{AreInnerMarks, AreAloneMarks}
+use Rattle.cert_check.specs.Shapes.{AreAloneMarks}
 
 -- one mark more
 pub inner_more : (S : List Point) (marks new : List Bool) (p : ℕ) (b : Bool) → new ≡ marks ++ b ∷ [] → IsTrue b ↔ IsInner S p

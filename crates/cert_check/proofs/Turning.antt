@@ -1,5 +1,5 @@
 -- No step along the border leads back along another.
-use Rattle.std.proofs.Common.{ℕ, ◌<◌, List, length, pos, sym, arith}
+use Rattle.std.proofs.Common.{ℕ, ◌<◌, List, length, sym, arith}
 use Rattle.std.proofs.lemmas.Int.{ints}
 use Rattle.plane.specs.declared.coordinates.Point.{Point}
 use Rattle.plane.specs.declared.coordinates.Turn.TheVariants.{Left}

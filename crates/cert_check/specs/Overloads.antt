@@ -1,6 +1,6 @@
 -- For private clauses.
 -- Pairs with more than is allowed.
-use Rattle.std.specs.Prelude.{◌≡◌, ℕ, ◌<◌, List, length, Option, Some, None, ℤ}
+use Rattle.std.specs.Prelude.{◌≡◌, ℕ, ◌<◌, List, Option, Some, None, ℤ}
 use Rattle.plane.specs.declared.coordinates.Point.{Point}
 use Rattle.plane.specs.First.{IsFirstPair}
 use Rattle.cost_defs.specs.Costs.{Costed}

@@ -1,5 +1,5 @@
 -- What stays at a vertex that an edit doesn't touch.
-use Rattle.std.proofs.Common.{◌≡◌, ℕ, Bool, true, false, ◌||◌, nat_eq, List, inl, inr, sym, refl}
+use Rattle.std.proofs.Common.{◌≡◌, ℕ, true, false, nat_eq, List, inl, inr, refl}
 use Rattle.std.proofs.lemmas.Bool.{or_parts}
 use Rattle.std.proofs.lemmas.Bool.Decides.{Decides-eqb, Decides-or, not_from_Decides}
 use Rattle.plane.specs.declared.coordinates.Point.{Point}

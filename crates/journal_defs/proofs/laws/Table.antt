@@ -1,16 +1,12 @@
 -- On the true stars of a sound state the table says legality.
-use Rattle.std.proofs.Common.{◌≡◌, ◌≢◌, ℕ, ◌+◌, ◌<◌, Bool, true, false, List, length, inl, inr, arith, sym, ◌∙◌, ap, subst, refl, Some}
+use Rattle.std.proofs.Common.{◌≡◌, ◌≢◌, ℕ, ◌<◌, Bool, true, false, List, length, inl, inr, sym, ◌∙◌, ap, subst, refl}
 use Rattle.std.specs.List.{Contains}
-use Rattle.std.proofs.lemmas.Int.{ints}
 use Rattle.plane.specs.declared.coordinates.Point.{Point}
 use Rattle.plane.specs.declared.segment.Pair.{Pair}
-use Rattle.plane.specs.Geometry.{point, IsInNeed}
-use Rattle.plane.proofs.laws.Area.{area_swap}
-use Rattle.std.proofs.lemmas.Bool.{false≢true, cases_lt}
-use Rattle.star.specs.Turn.{TurnsBefore, IsBeforeInTurn}
+use Rattle.plane.specs.Geometry.{IsInNeed}
 use Rattle.partition_defs.specs.Partition.{HasEnds, Joins, MeetsNeedsAt}
 use Rattle.partition_defs.specs.Triangulation.{IsApex}
-use Rattle.star.specs.Stars.{Seen, IsStar, IsNeighbour, HasMark, IsNext, StandsAt, entry, around}
+use Rattle.star.specs.Stars.{Seen, IsStar, IsNeighbour, HasMark, entry}
 use Rattle.star.specs.StarOf.{IsStarOf}
 use Rattle.partition_defs.proofs.laws.Flips.{apex_is_one, apex_turns}
 use Rattle.partition_defs.proofs.laws.Joined.{join_back, contains_joins, joins_contains, one_other, among_joins}
@@ -23,7 +19,7 @@ use Rattle.journal_defs.specs.declared.edit.Why.{Why}
 use Rattle.journal_defs.specs.declared.edit.Why.TheVariants.{NotThere, NotKept, NotSpare, Border, Opens, AlreadyThere, NotApex, Bent}
 use Rattle.partition_defs.specs.Sets.{without}
 use Rattle.journal_defs.specs.Edits.{State, IsLegalDrop, IsSpare, IsLegal, is_end, touches, IsSound}
-use Rattle.star.specs.Gaps.{MeetsWithout, MissesWithout}
+use Rattle.star.specs.Gaps.{MeetsWithout}
 use Rattle.journal_defs.specs.Table.{Shows, ShowsKept, IsFirstOpened, ShowsApex, IsEitherApex, IsFirstNoApex, IsFirstBent, JoinsApexes, IsLowRight, IsHighLeft, FitsDrop, FitsKeep, FitsFlip, Fits, RefusesDrop, RefusesKeep, RefusesFlip, Refuses}
 use Rattle.journal_defs.specs.Agree.{AreAgreeing}
 use Rattle.partition_defs.proofs.laws.Sets.{joins_without, without_joins}

@@ -1,5 +1,5 @@
 -- The star of a vertex as a value is its star, and the only one.
-use Rattle.std.proofs.Common.{◌≡◌, ◌≢◌, ℕ, zero, suc, ◌<◌, ◌≤◌, Bool, true, false, ◌&&◌, ◌||◌, cond, nat_eq, List, [], ◌∷◌, length, get_or, ℤ, pos, negsuc, ◌-ℤ◌, ◌*ℤ◌, ◌+ℤ◌, neg_ℤ, ◌<ℤ◌, ◌⊎◌, inl, inr, arith, sym, ◌∙◌, ap, subst, refl}
+use Rattle.std.proofs.Common.{◌≡◌, ◌≢◌, ℕ, zero, suc, ◌<◌, ◌≤◌, Bool, true, false, ◌&&◌, ◌||◌, cond, nat_eq, List, [], ◌∷◌, length, get_or, ℤ, pos, negsuc, ◌-ℤ◌, ◌<ℤ◌, ◌⊎◌, inl, inr, arith, sym, ◌∙◌, ap, subst, refl}
 use Rattle.std.specs.Bool.{Decides}
 use Rattle.std.specs.Ordering.{int_eq}
 use Rattle.std.proofs.lemmas.Int.{ints}
@@ -8,18 +8,13 @@ use Rattle.std.proofs.lemmas.Bool.Decides.{Decides-eqb, Decides-int_eq, Decides-
 use Rattle.std.proofs.lemmas.List.Folds.{Any-from_list_any, list_any_at}
 use Rattle.plane.specs.declared.coordinates.Point.{Point}
 use Rattle.plane.specs.declared.segment.Pair.{Pair}
-use Rattle.plane.specs.Geometry.{point, area, scalar, LiesBetween, IsClear, AreOpposite}
+use Rattle.plane.specs.Geometry.{point, area}
 use Rattle.plane.specs.Accepted.{AreAccepted}
-use Rattle.plane.proofs.laws.Area.{area_back}
-use Rattle.plane.proofs.laws.Along.{one_between}
-use Rattle.plane.proofs.laws.Opposite.{opposite_steps}
-use Rattle.number_laws.proofs.Signs.{positive_positive, positive_negative, negative_positive, zero_left, zero_right}
-use Rattle.number_laws.proofs.Products.{neg_mul, mul_neg}
 use Rattle.plane.proofs.laws.Border.{points_differ}
 use Rattle.partition_defs.specs.Partition.{HasEnds, Joins}
 use Rattle.partition_defs.specs.Triangulation.{IsTriangulation}
-use Rattle.star.specs.Turn.{IsUpper, IsLower, AreInOneHalf, TurnsBefore, PointTogether, IsBeforeInTurn}
-use Rattle.star.specs.Stars.{Seen, IsNeighbour, HasMark, entry, AreInTurn}
+use Rattle.star.specs.Turn.{IsUpper, IsLower, TurnsBefore, PointTogether, IsBeforeInTurn}
+use Rattle.star.specs.Stars.{Seen, entry, AreInTurn}
 use Rattle.star.specs.StarOf.{IsStarOf}
 use Rattle.star.proofs.laws.Turning.{not_both, upper_or_lower, before_on, before_or, never_before_itself}
 use Rattle.partition_defs.proofs.laws.Has.{contains_of}

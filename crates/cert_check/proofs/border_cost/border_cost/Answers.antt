@@ -1,4 +1,4 @@
-use Rattle.std.proofs.Common.{◌≡◌, ◌+◌, ℕ, length, sym, ◌∙◌, ap, subst, arith}
+use Rattle.std.proofs.Common.{◌≡◌, ◌+◌, length, sym, ◌∙◌, ap, subst, arith}
 use Rattle.cert_check.specs.BorderCosts.{AreSteps}
 use Rattle.cert_check.proofs.BorderCosts.{steps_more, steps_less, steps_all}
 use Rattle.cert_check.proofs.border_cost.border_cost.Goals as goal

@@ -1,4 +1,4 @@
-use Rattle.std.proofs.Common.{◌≡◌, ◌≤◌, ℕ, List, refl, sym, ◌∙◌, ap₂, subst, arith}
+use Rattle.std.proofs.Common.{◌≡◌, ℕ, List, refl, ◌∙◌, ap₂, arith}
 use Rattle.price_defs.specs.declared.row.Row.{Row}
 use Rattle.price_defs.specs.Loads.{IsValid, value}
 use Rattle.price_defs.proofs.laws.Duality.{none_is_cheaper}

@@ -1,5 +1,5 @@
-use Rattle.std.proofs.Common.{◌<◌, arith}
-use Rattle.cert_check.proofs.Overloads.{first_from, none_from_more}
+use Rattle.std.proofs.Common.{arith}
+use Rattle.cert_check.proofs.Overloads.{none_from_more}
 use Rattle.cert_check.proofs.overload.first_over_from.Goals as goal
 
 pub loop-j-preserved : goal.loop-j-preserved

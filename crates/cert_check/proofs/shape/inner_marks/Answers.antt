@@ -1,4 +1,4 @@
-use Rattle.std.proofs.Common.{◌≡◌, length, sym, ◌∙◌, subst, arith}
+use Rattle.std.proofs.Common.{◌≡◌, length, ◌∙◌, arith}
 use Rattle.cert_check.proofs.Shapes.{inner_more}
 use Rattle.cert_check.proofs.shape.inner_marks.Goals as goal
 

@@ -1,18 +1,16 @@
 -- The rows of the table from their parts.
-use Rattle.std.proofs.Common.{◌≡◌, ℕ, List, ◌⊎◌, inl, inr, sym, subst, refl, Option, Some, None, Ok, Err}
+use Rattle.std.proofs.Common.{◌≡◌, ℕ, List, ◌⊎◌, inl, inr, subst, refl, Option, Some, Ok, Err}
 use Rattle.std.proofs.lemmas.Bool.{false≢true}
 use Rattle.std.specs.Prelude.{Result, MatchResult, IsOk}
 use Rattle.plane.specs.declared.coordinates.Point.{Point}
 use Rattle.plane.specs.declared.segment.Pair.{Pair}
 use Rattle.star.specs.Stars.{Seen, IsStar}
-use Rattle.journal_defs.specs.declared.edit.Edit.{Edit}
 use Rattle.journal_defs.specs.declared.edit.Edit.TheVariants.{Drop, Keep, Flip}
 use Rattle.journal_defs.specs.declared.edit.Why.{Why}
 use Rattle.journal_defs.specs.declared.edit.Why.TheVariants.{NotThere, NotKept, NotSpare, Border, Opens, AlreadyThere, NotApex, Bent}
 use Rattle.journal_defs.specs.Table.{seen_of, IsFresh, IsFirstNoApex, FitsDrop, FitsKeep, FitsFlip, JoinsApexes, RefusesDrop, RefusesKeep, RefusesFlip, Fits, Refuses}
 use Rattle.edit.specs.Shown.{IsShownApex}
-use Rattle.edit.specs.DropRow.{IsKeptOrWhy}
-use Rattle.edit.specs.FlipRow.{IsFreshOrWhy, IsOneOf, AreApexesOrWhy, AreSidesOrWhy}
+use Rattle.edit.specs.FlipRow.{IsOneOf, AreApexesOrWhy, AreSidesOrWhy}
 use Rattle.edit.proofs.Shown.{one_of_apex, apex_one_of, joins_shown, shown_some}
 
 -- the stars of the old pair's ends and the apexes that they show

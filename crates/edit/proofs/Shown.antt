@@ -1,5 +1,5 @@
 -- What the shown apexes of a pair say of all its apexes, and what a mark says.
-use Rattle.std.proofs.Common.{◌≡◌, ◌≢◌, ℕ, pos, ◌+◌, ◌<◌, Bool, true, false, List, length, ◌⊎◌, inl, inr, sym, ◌∙◌, ap, subst, arith, Option, Some, None}
+use Rattle.std.proofs.Common.{◌≡◌, ℕ, pos, ◌<◌, Bool, true, false, List, length, inl, inr, sym, ◌∙◌, ap, subst, arith, Option, Some, None}
 use Rattle.std.specs.Prelude.{◌<ℤ◌, IfSome}
 use Rattle.plane.specs.declared.coordinates.Point.{Point}
 use Rattle.plane.specs.declared.segment.Pair.{Pair}
@@ -7,7 +7,7 @@ use Rattle.std.proofs.lemmas.Int.{ints}
 use Rattle.plane.specs.Geometry.{point, orientation, IsInNeed, IsBorderPair}
 use Rattle.plane.proofs.laws.Area.{area_back}
 use Rattle.partition_defs.specs.Partition.{HasEnds}
-use Rattle.star.specs.Stars.{Seen, entry, around, IsStar, StandsAt, IsNext, IsNeighbour, HasMark}
+use Rattle.star.specs.Stars.{Seen, entry, IsStar, StandsAt, IsNext, IsNeighbour, HasMark}
 use Rattle.star.specs.Gaps.{IsKept, MeetsAll, MeetsWithout, MissesSome, MissesWithout}
 use Rattle.journal_defs.specs.Table.{ShowsApex, IsEitherApex, JoinsApexes}
 use Rattle.std.proofs.lemmas.Bool.{false≢true}

@@ -1,12 +1,12 @@
 -- What an edit does to the star of a vertex that it touches.
-use Rattle.std.proofs.Common.{◌≡◌, ◌≢◌, ℕ, ◌+◌, ◌<◌, Bool, true, false, ◌||◌, nat_eq, List, length, pos, ◌⊎◌, ◌↔◌, inl, inr, arith, sym, ◌∙◌, ap, subst, refl}
+use Rattle.std.proofs.Common.{◌≡◌, ◌≢◌, ℕ, ◌+◌, ◌<◌, Bool, true, false, nat_eq, List, length, pos, inl, inr, arith, sym, ◌∙◌, ap, subst, refl}
 use Rattle.std.specs.List.{Contains}
 use Rattle.std.proofs.lemmas.Int.{ints}
 use Rattle.std.proofs.lemmas.Bool.{false≢true}
 use Rattle.std.proofs.lemmas.Bool.Decides.{Decides-eqb, Decides-or}
 use Rattle.plane.specs.declared.coordinates.Point.{Point}
 use Rattle.plane.specs.declared.segment.Pair.{Pair}
-use Rattle.plane.specs.Geometry.{point, area, IsClear, AreOpposite, AreCrossing}
+use Rattle.plane.specs.Geometry.{point, area, IsClear, AreCrossing}
 use Rattle.plane.specs.Accepted.{AreAccepted}
 use Rattle.plane.proofs.laws.Area.{area_first, area_second}
 use Rattle.plane.proofs.laws.Border.{clear_back}
@@ -18,11 +18,11 @@ use Rattle.partition_defs.proofs.laws.Needs.{clear_joined}
 use Rattle.star.specs.Stars.{Seen, entry, IsStar, IsNeighbour, HasMark, Marks, Gains, Loses, SamePlace, IsFree}
 use Rattle.star.specs.Turn.{IsInDirection}
 use Rattle.star.specs.StarOf.{IsStarOf}
-use Rattle.star.proofs.laws.StarOf.{AreEndsOf, GainsSegment, LosesSegment, AreSameAt, kept_segment, dropped_segment, put_segment, removed_segment, untouched}
+use Rattle.star.proofs.laws.StarOf.{AreEndsOf, GainsSegment, LosesSegment, kept_segment, dropped_segment, put_segment, removed_segment, untouched}
 use Rattle.journal_defs.specs.declared.edit.Edit.{Edit}
 use Rattle.journal_defs.specs.declared.edit.Edit.TheVariants.{Drop, Keep, Flip}
 use Rattle.journal_defs.specs.Edits.{State, after, IsLegal, IsLegalDrop, IsSpare, IsLegalFlip, IsSound, is_end}
-use Rattle.journal_defs.specs.Neighbours.{star_list, list_after}
+use Rattle.journal_defs.specs.Neighbours.{list_after}
 use Rattle.edit.specs.Steps.{IsBefore, IsAfter}
 use Rattle.journal_defs.proofs.laws.Edits.{sound_after}
 use Rattle.star.proofs.laws.Marks.{unmarked}

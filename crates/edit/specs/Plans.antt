@@ -1,5 +1,5 @@
 -- Plans: edits and claims on the vertices that they touch.
-use Rattle.std.specs.Prelude.{◌≡◌, ℕ, ◌-◌, ◌<◌, ◌≤◌, ◌⊎◌, Bool, ◌||◌, true, false, nat_eq, List, [], length, slice_index_or, Option, Some, None}
+use Rattle.std.specs.Prelude.{◌≡◌, ℕ, ◌-◌, ◌<◌, ◌≤◌, Bool, true, false, nat_eq, List, length, slice_index_or, Option, Some, None}
 use Rattle.std.specs.List.{list_any, AllAdjacentBelow}
 use Rattle.journal_defs.specs.declared.edit.Edit.{Edit}
 use Rattle.journal_defs.specs.declared.edit.Claim.{Claim}

@@ -19,7 +19,7 @@ pub fn instance_reads_back(instance: &Instance)
         (map coordinates instance.now.points))) (Ok instance.now) }
     ensures once { (other : Instance)
         → IsRead (instance_from (instance_text (map cost_item instance.now.costs) instance.now.name
-            (map coordinates instance.now.points))) (Ok other)
+        (map coordinates instance.now.points))) (Ok other)
         → other ≡ instance.now }
 {
     let _count = instance.points.len();

@@ -29,8 +29,13 @@ impl Model for MemorySource {
 
     ghost Value = { SourceState };
 
-    ghost view = { λ s. record { left = drop s.at s.bytes.items; step = s.step; failing = s.failing.items;
-        calls = s.calls; faults = s.faults } };
+    ghost view = { λ s. record {
+      left = drop s.at s.bytes.items;
+      step = s.step;
+      failing = s.failing.items;
+      calls = s.calls;
+      faults = s.faults;
+    } };
 
     ghost invariant = { λ s. (s.at ≤ vec_len s.bytes) × (0 < s.step) };
 }
@@ -112,8 +117,14 @@ impl Model for MemorySink {
 
     ghost Value = { SinkState };
 
-    ghost view = { λ s. record { written = s.bytes.items; room = s.room; step = s.step; failing = s.failing.items;
-        calls = s.calls; faults = s.faults } };
+    ghost view = { λ s. record {
+      written = s.bytes.items;
+      room = s.room;
+      step = s.step;
+      failing = s.failing.items;
+      calls = s.calls;
+      faults = s.faults;
+    } };
 
     ghost invariant = { λ s. (vec_len s.bytes + s.room ≤ vec_capacity s.bytes) × (0 < s.step) };
 }
@@ -166,8 +177,11 @@ impl Sink for MemorySink {
         ensures failed { IsErr result ↔ MustFail self.old piece.now }
         ensures count { IfOk result (λ k. k ≡ min self.old.step (min (length piece.now) self.old.room)) }
         ensures appended { IfOk result
-            (λ k. self.new ≡ record self.old { written = self.old.written ++ take k piece.now;
-            room = self.old.room - k; calls = next_count self.old.calls }) }
+            (λ k. self.new ≡ record self.old {
+              written = self.old.written ++ take k piece.now;
+              room = self.old.room - k;
+              calls = next_count self.old.calls;
+            }) }
         ensures nothing { OnErr result (self.new
             ≡ record self.old { calls = next_count self.old.calls; faults = next_count self.old.faults }) }
     {

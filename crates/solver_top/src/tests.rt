@@ -12,8 +12,7 @@ const SQUARE: &str =
 const SQUARE_WITH_A_FRACTION: &str =
     r#"{"instance":{"name":"sq","points":[{"x":0,"y":0},{"x":0,"y":4.0},{"x":4,"y":0},{"x":4,"y":4}]},"solution":{"edges":["#;
 
-const SQUARE_WITH_COSTS: &str =
-    r#"{"instance":{"costs":[[0,3,0],[2,1,1000]],
+const SQUARE_WITH_COSTS: &str = r#"{"instance":{"costs":[[0,3,0],[2,1,1000]],
 "name":"sq","points":[{"x":0,"y":0},{"x":0,"y":4},{"x":4,"y":0},{"x":4,"y":4}]},"solution":{"edges":["#;
 
 const SAME_PLACE: &str =

@@ -29,8 +29,12 @@ impl Model for Subdivision {
 
     ghost Value = { Layout };
 
-    ghost view = { λ a. record { points = a.points.value; all = all_of a.stars.items; kept = kept_of a.stars.items;
-        stars = a.stars.items } };
+    ghost view = { λ a. record {
+      points = a.points.value;
+      all = all_of a.stars.items;
+      kept = kept_of a.stars.items;
+      stars = a.stars.items;
+    } };
 
     ghost invariant = { λ a. AreAgreed a.points.value a.stars.items };
 }

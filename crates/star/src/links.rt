@@ -1,6 +1,7 @@
 // What a star keeps of each kept neighbour: the kept ones before and after it, and whether the gap between these is
 // more than straight. A neighbour's answer changes only where it stands next to a changed mark.
-ghost use Rattle.std.specs.Prelude.{◌≡◌, ◌≢◌, ℕ, ◌+◌, ◌<◌, ◌≤◌, ◌^◌, ◌↔◌, ◌||◌, length, IsTrue, insert, vec_len, vec_capacity, slice_set, true, false};
+ghost use Rattle.std.specs.Prelude.{◌≡◌, ◌≢◌, ℕ, ◌+◌, ◌<◌, ◌≤◌, ◌^◌, ◌↔◌, ◌||◌, length, IsTrue, insert, vec_len};
+ghost use Rattle.std.specs.Prelude.{vec_capacity, slice_set, true, false};
 ghost use Rattle.star.specs.Stars.{entry};
 ghost use Rattle.star.specs.Gaps.{IsKept, IsWide};
 ghost use Rattle.star.specs.Links.{link, HasRightLinks, IsSetLink, IsTakenOut, IsPutIn, IsMended, IsFirstIn, IsAfterOrNone};

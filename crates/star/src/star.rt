@@ -1,5 +1,7 @@
-ghost use Rattle.std.specs.Prelude.{◌≡◌, ◌≢◌, ◌+◌, ◌<◌, ◌≤◌, ◌^◌, ℕ, [], length, IfOk, OnOk, OnErr, IsTrue, ◌↔◌, insert, remove, slice_set, vec_len, vec_capacity, true, false};
-ghost use Rattle.star.specs.Stars.{Seen, entry, around, IsStar, IsNeighbour, HasMark, StandsAt, IsPlace, IsNext, IsFirstKept, IsKeptNext, Marks, SamePlace, Gains, Loses, IsFree};
+ghost use Rattle.std.specs.Prelude.{◌≡◌, ◌≢◌, ◌+◌, ◌<◌, ◌≤◌, ◌^◌, ℕ, [], length, IfOk, OnOk, OnErr, IsTrue, ◌↔◌};
+ghost use Rattle.std.specs.Prelude.{insert, remove, slice_set, vec_len, vec_capacity, true, false};
+ghost use Rattle.star.specs.Stars.{Seen, entry, around, IsStar, IsNeighbour, HasMark, StandsAt, IsPlace, IsNext};
+ghost use Rattle.star.specs.Stars.{IsFirstKept, IsKeptNext, Marks, SamePlace, Gains, Loses, IsFree};
 ghost use Rattle.star.specs.Gaps.{IsKept, MeetsAll, MeetsWithout, MissesSome, MissesWithout};
 ghost use Rattle.star.specs.Links.{IsFirstKeptOrNone};
 

@@ -15,24 +15,26 @@ use Rattle.partition_defs.specs.Partition.{Joins, HasEnds}
 use Rattle.partition_defs.specs.Triangulation.{IsBorderList, HasTriangulationCount}
 use Rattle.partition_defs.specs.Sweep.{IsSweptBefore}
 use Rattle.triangulate.specs.Sides.{UpTo}
-use Rattle.triangulate.specs.State.{Links, Side}
+use Rattle.triangulate.specs.Front.{Links, Side}
 use Rattle.triangulate.specs.Swept.{opposite}
 use Rattle.triangulate.proofs.Field.{Setting, turned_back, not_both}
 use Rattle.triangulate.proofs.Final.{All as AllIn, clear_turned}
 use Rattle.triangulate.proofs.Places.{sweep_setting, opposite_turned}
-use Rattle.triangulate.proofs.Triangulated.{Swept, border_links, clear_from, border_swap}
+use Rattle.triangulate.proofs.Triangulated.{Swept, border_links, clear_from}
 use Rattle.partition_defs.proofs.laws.Joined.{contains_joins, joins_pair}
 use Rattle.triangulate.proofs.Count.{Key, key, ends, chain_keys, keys_count, all_keys, contains_key, key_cases, keys_distinct, pairs_distinct, same_length}
 use Rattle.plane.proofs.laws.Area.{area_back}
+use Rattle.plane.proofs.laws.Border.{border_back}
 use Rattle.number_laws.proofs.Naturals.{below_differs}
 use Rattle.number_laws.proofs.Signs.{zero_of_weak}
+use Rattle.triangulate.specs.Swept.{swept_sight}
 
 -- no side is on both chains
 not_shared : (S : List Point) (apart : AreApart S) → AreSpread S → (T : List Pair) (r r2 : List ℕ) (z : ℕ) → Swept S apart T r r2 z → AllIn (sweep_setting S apart) z
     → (p q : ℕ) → Links z r p q → Links z r2 p q → ⊥
 not_shared S apart spread T r r2 z m all p q k l =
-    let d : Side (length S) (IsSweptBefore S) (orientation S) (Joins T) (λ s. UpTo (IsSweptBefore S) s z) p q = m.lower.sides p q k in
-    let e : Side (length S) (IsSweptBefore S) (opposite S) (Joins T) (λ s. UpTo (IsSweptBefore S) s z) p q = m.upper.sides p q l in
+    let d : Side (swept_sight S (orientation S)) (Joins T) (λ s. UpTo (IsSweptBefore S) s z) p q = m.lower.sides p q k in
+    let e : Side (swept_sight S (opposite S)) (Joins T) (λ s. UpTo (IsSweptBefore S) s z) p q = m.upper.sides p q l in
     let on : (s : ℕ) → s < length S → orientation S p q s ≡ pos 0 = λ s sn. zero_of_weak (orientation S p q s) (d.left s sn (all s sn)) (e.left s sn (all s sn)) in
     let a = spread.0 in let b = spread.1 in let c = spread.2 in
     spread.6 (all_in_line (point S p) (point S q) (point S a) (point S b) (point S c) d.before (on a spread.3) (on b spread.4) (on c spread.5))
@@ -43,13 +45,13 @@ swapped_side x y e h = omega (arith, ints)
 lower_border : (S : List Point) (apart : AreApart S) (T : List Pair) (r r2 : List ℕ) (z : ℕ) → Swept S apart T r r2 z → AllIn (sweep_setting S apart) z
     → (p q : ℕ) → Links z r p q → IsBorderPair S p q
 lower_border S apart T r r2 z m all p q k =
-    let d : Side (length S) (IsSweptBefore S) (orientation S) (Joins T) (λ s. UpTo (IsSweptBefore S) s z) p q = m.lower.sides p q k in
+    let d : Side (swept_sight S (orientation S)) (Joins T) (λ s. UpTo (IsSweptBefore S) s z) p q = m.lower.sides p q k in
     (clear_from S apart p q d.before d.clear, inl (λ s sn. d.left s sn (all s sn)))
 
 upper_border : (S : List Point) (apart : AreApart S) (T : List Pair) (r r2 : List ℕ) (z : ℕ) → Swept S apart T r r2 z → AllIn (sweep_setting S apart) z
     → (p q : ℕ) → Links z r2 p q → IsBorderPair S p q
 upper_border S apart T r r2 z m all p q k =
-    let d : Side (length S) (IsSweptBefore S) (opposite S) (Joins T) (λ s. UpTo (IsSweptBefore S) s z) p q = m.upper.sides p q k in (
+    let d : Side (swept_sight S (opposite S)) (Joins T) (λ s. UpTo (IsSweptBefore S) s z) p q = m.upper.sides p q k in (
       clear_from S apart p q d.before (clear_turned (sweep_setting S apart) (opposite S) (orientation S) (turned_back (orientation S) (opposite S) (opposite_turned S)) p q d.clear),
       inr (λ s sn. swapped_side (orientation S p q s) (orientation S q p s) (area_back (point S q) (point S p) (point S s)) (d.left s sn (all s sn))),
     )
@@ -78,7 +80,7 @@ listed_any S apart B b i j iN jn hne p = elim (cases_order i j) [
   | inl e ↦ absurd (hne e)
   | inr u ↦ elim u [
     | inl h ↦ listed S B b i j h jn p
-    | inr h ↦ subst (λ x. Contains (map ends B) x) (key_swap j i) (listed S B b j i h iN (border_swap S apart i j p))
+    | inr h ↦ subst (λ x. Contains (map ends B) x) (key_swap j i) (listed S B b j i h iN (border_back S i j p))
   ]
 ]
 
@@ -120,11 +122,11 @@ chains_listed : (S : List Point) (apart : AreApart S) (T : List Pair) (r r2 : Li
 chains_listed S apart T r r2 z m all B b q c = elim (Contains-append_cases (chain_keys z r) (chain_keys z r2) q c) [
   | inl k ↦ All-contains (λ x. Contains (map ends B) x) (chain_keys z r) q
       (all_keys (λ x. Contains (map ends B) x) z r (λ i j l.
-      (let d : Side (length S) (IsSweptBefore S) (orientation S) (Joins T) (λ s. UpTo (IsSweptBefore S) s z) i j = m.lower.sides i j l in
+      (let d : Side (swept_sight S (orientation S)) (Joins T) (λ s. UpTo (IsSweptBefore S) s z) i j = m.lower.sides i j l in
       listed_any S apart B b i j d.a_in d.b_in (side_differ S apart i j d.before) (lower_border S apart T r r2 z m all i j l)))) k
   | inr k ↦ All-contains (λ x. Contains (map ends B) x) (chain_keys z r2) q
       (all_keys (λ x. Contains (map ends B) x) z r2 (λ i j l.
-      (let d : Side (length S) (IsSweptBefore S) (opposite S) (Joins T) (λ s. UpTo (IsSweptBefore S) s z) i j = m.upper.sides i j l in
+      (let d : Side (swept_sight S (opposite S)) (Joins T) (λ s. UpTo (IsSweptBefore S) s z) i j = m.upper.sides i j l in
       listed_any S apart B b i j d.a_in d.b_in (side_differ S apart i j d.before) (upper_border S apart T r r2 z m all i j l)))) k
 ]
 
@@ -132,8 +134,8 @@ upper_apart : (S : List Point) (apart : AreApart S) → AreSpread S → (T : Lis
     → (p q : ℕ) → Links z r p q → All (λ (y : Key). key p q ≢ y) (chain_keys z r2)
 upper_apart S apart spread T r r2 z m all p q k =
     all_keys (λ (y : Key). key p q ≢ y) z r2 (λ i j l e.
-    (let d : Side (length S) (IsSweptBefore S) (orientation S) (Joins T) (λ s. UpTo (IsSweptBefore S) s z) p q = m.lower.sides p q k in
-    let f : Side (length S) (IsSweptBefore S) (opposite S) (Joins T) (λ s. UpTo (IsSweptBefore S) s z) i j = m.upper.sides i j l in
+    (let d : Side (swept_sight S (orientation S)) (Joins T) (λ s. UpTo (IsSweptBefore S) s z) p q = m.lower.sides p q k in
+    let f : Side (swept_sight S (opposite S)) (Joins T) (λ s. UpTo (IsSweptBefore S) s z) i j = m.upper.sides i j l in
     elim (key_cases p q i j e) [
       | inl g ↦ not_shared S apart spread T r r2 z m all p q k (subst₂ (λ x y. Links z r2 x y) (sym g.0) (sym g.1) l)
       | inr g ↦ not_both (sweep_setting S apart) p q d.before (subst₂ (λ x y. IsSweptBefore S x y) (sym g.1) (sym g.0) f.before)
@@ -144,8 +146,8 @@ chains_distinct : (S : List Point) (apart : AreApart S) → AreSpread S → (T :
 chains_distinct S apart spread T r r2 z m all =
     let E : Setting = sweep_setting S apart in
     let up : AllPairs (λ (x y : Key). x ≢ y) (chain_keys z r2 ++ []) =
-    keys_distinct E z r2 [] (λ a b k. (let f : Side (length S) (IsSweptBefore S) (opposite S) (Joins T) (λ s. UpTo (IsSweptBefore S) s z) a b = m.upper.sides a b k in f.before)) (λ i j d hij hj. absurd (omega arith)) (λ p q k i d h. absurd (omega arith)) in
-    keys_distinct E z r (chain_keys z r2) (λ a b k. (let f : Side (length S) (IsSweptBefore S) (orientation S) (Joins T) (λ s. UpTo (IsSweptBefore S) s z) a b = m.lower.sides a b k in f.before))
+    keys_distinct E z r2 [] (λ a b k. (let f : Side (swept_sight S (opposite S)) (Joins T) (λ s. UpTo (IsSweptBefore S) s z) a b = m.upper.sides a b k in f.before)) (λ i j d hij hj. absurd (omega arith)) (λ p q k i d h. absurd (omega arith)) in
+    keys_distinct E z r (chain_keys z r2) (λ a b k. (let f : Side (swept_sight S (orientation S)) (Joins T) (λ s. UpTo (IsSweptBefore S) s z) a b = m.lower.sides a b k in f.before))
     (subst (λ xs. AllPairs (λ (x y : Key). x ≢ y) xs) (append-nil (chain_keys z r2)) up)
     (upper_apart S apart spread T r r2 z m all)
 

@@ -17,7 +17,7 @@ use Rattle.plane.specs.declared.segment.Pair.{Pair, ordered-type}
 use Rattle.plane.proofs.laws.Pairs.{pair_same}
 use Rattle.partition_defs.specs.Triangulation.{AreDistinct}
 use Rattle.triangulate.specs.Sides.{UpTo}
-use Rattle.triangulate.specs.State.{Links}
+use Rattle.triangulate.specs.Front.{Links}
 use Rattle.triangulate.proofs.Field.{Setting, up_to_before}
 use Rattle.triangulate.proofs.Moves.{link_below}
 

@@ -3,7 +3,7 @@ use Rattle.std.proofs.Common.{◌≡◌, ℕ, ℤ, pos, neg_ℤ, arith, ◌<◌,
 use Rattle.std.specs.Prelude.{◌<ℤ◌, ◌≤ℤ◌}
 use Rattle.std.proofs.lemmas.Int.{ints}
 use Rattle.plane_laws.specs.Order.{AreInOrder}
-use Rattle.triangulate.specs.Sides.{UpTo}
+use Rattle.triangulate.specs.Sides.{Sight, UpTo}
 use Rattle.number_laws.proofs.Signs.{zero_of_own}
 
 -- n points in a strict order
@@ -13,6 +13,10 @@ pub record Setting : Type 1 where
   pub trans : (i j k : ℕ) → B i j → B j k → B i k
   pub irrefl : (i : ℕ) → ¬ B i i
   pub place : (i j : ℕ) → i < n → j < n → B i j ⊎ ((i ≡ j) ⊎ B j i)
+
+-- the points with one of their orientations
+abbrev pub view : (E : Setting) (o : ℕ → ℕ → ℕ → ℤ) → Sight
+view E o = record { count = E.n; Before = E.B; sign = o }
 
 -- the signs of three points are those of an orientation
 pub record Laws (E : Setting) (o : ℕ → ℕ → ℕ → ℤ) : Type 0 where

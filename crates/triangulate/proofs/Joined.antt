@@ -14,14 +14,15 @@ use Rattle.partition_defs.specs.Sweep.{IsSweptBefore}
 use Rattle.triangulate.specs.declared.sweep.Part.{Part}
 use Rattle.triangulate.specs.declared.sweep.Part.TheVariants.{Lower, Upper}
 use Rattle.triangulate.specs.Chains.{shortened}
-use Rattle.triangulate.specs.State.{Side}
-use Rattle.triangulate.specs.Swept.{opposite, turn, other_turn, AreJoining, IsJoining, SeesLastSide}
+use Rattle.triangulate.specs.Front.{Side}
+use Rattle.triangulate.specs.Swept.{opposite, turn, other_turn, Round, AreJoining, IsJoining, SeesLastSide}
 use Rattle.triangulate.proofs.Field.{Setting, Laws, AreTurned, turned_back}
-use Rattle.triangulate.proofs.State.{Adds}
+use Rattle.triangulate.proofs.Adding.{Adds}
 use Rattle.triangulate.proofs.Step.{step}
 use Rattle.triangulate.proofs.Moves.{unjoined}
 use Rattle.triangulate.proofs.Places.{sweep_setting, plane_laws, opposite_laws, opposite_turned}
 use Rattle.partition_defs.proofs.laws.Joined.{ends_back, ends_of_new, joins_pair, joins_from}
+use Rattle.triangulate.specs.Swept.{swept_sight}
 
 same_ends : (e : Pair) (a z p q : ℕ) → HasEnds e a z → HasEnds e p q → ((p ≡ a) × (q ≡ z)) ⊎ ((p ≡ z) × (q ≡ a))
 same_ends e a z p q (inl g) (inl h) = inl (sym h.0 ∙ g.0, sym h.1 ∙ g.1)
@@ -53,29 +54,28 @@ pub part_turned : (S : List Point) (part : Part) → AreTurned (turn part S) (ot
 part_turned S Lower = opposite_turned S
 part_turned S Upper = turned_back (orientation S) (opposite S) (opposite_turned S)
 
-first_apart : (S : List Point) (apart : AreApart S) (o w : ℕ → ℕ → ℕ → ℤ) (T : List Pair) (b a : ℕ) (r l2 : List ℕ) (z last : ℕ)
-    → AreJoining S o w T (b ∷ (a ∷ r)) l2 z last → a ≢ z
-first_apart S apart o w T b a r [] z last h e = h
-first_apart S apart o w T b a r (t2 ∷ r2) z last h e =
-    let s : Side (length S) (IsSweptBefore S) o (Joins T) (λ s. IsSweptBefore S s z) a b = h.lower.chain.sides a b (inl (refl, refl)) in
+first_apart : (S : List Point) (apart : AreApart S) (part : Part) (T : List Pair) (b a : ℕ) (r l2 : List ℕ) (z last : ℕ)
+    → AreJoining S part T (b ∷ (a ∷ r)) l2 z last → a ≢ z
+first_apart S apart part T b a r [] z last h e = h
+first_apart S apart part T b a r (t2 ∷ r2) z last h e =
+    let s : Side (swept_sight S (turn part S)) (Joins T) (λ s. IsSweptBefore S s z) a b = h.lower.chain.sides a b (inl (refl, refl)) in
     let E : Setting = sweep_setting S apart in
     E.irrefl z (subst (λ x. E.B x z) e (E.trans a b z s.before s.b_seen))
 
 -- the point that is joined next isn't the new one
-pub seen_apart : (S : List Point) (o w : ℕ → ℕ → ℕ → ℤ) (T : List Pair) (l l2 : List ℕ) (z last k a : ℕ)
-    → IsJoining S o w T l l2 z last k → SeesLastSide o l z a → a ≢ z
-seen_apart S o w T l l2 z last k a m h =
-    first_apart S m.apart o w T h.b a h.r l2 z last (subst (λ xs. AreJoining S o w T xs l2 z last) h.is m.chains)
+pub seen_apart : (S : List Point) (part : Part) (T : List Pair) (l : List ℕ) (z a : ℕ) (g : Round) → IsJoining S part T l z g → SeesLastSide (turn part S) l z a → a ≢ z
+seen_apart S part T l z a g m h =
+    first_apart S m.apart part T h.b a h.r g.others z g.last (subst (λ xs. AreJoining S part T xs g.others z g.last) h.is m.chains)
 
 step_chains : (S : List Point) (apart : AreApart S) (part : Part) (T : List Pair) (b a : ℕ) (r l2 : List ℕ) (z last : ℕ) (e : Pair) → HasEnds e a z
-    → AreJoining S (turn part S) (other_turn part S) T (b ∷ (a ∷ r)) l2 z last → turn part S a b z <ℤ pos 0
-    → AreJoining S (turn part S) (other_turn part S) (T ++ e ∷ []) (a ∷ r) l2 z last
+    → AreJoining S part T (b ∷ (a ∷ r)) l2 z last → turn part S a b z <ℤ pos 0
+    → AreJoining S part (T ++ e ∷ []) (a ∷ r) l2 z last
 step_chains S apart part T b a r [] z last e he h p = h
 step_chains S apart part T b a r (t2 ∷ r2) z last e he h p =
     step (sweep_setting S apart) (turn part S) (other_turn part S) (part_laws S apart part) (Joins T) (Joins (T ++ e ∷ [])) b a r t2 r2 z last h p (push_adds T e a z he)
 
 step_unjoined : (S : List Point) (apart : AreApart S) (part : Part) (T : List Pair) (b a : ℕ) (r l2 : List ℕ) (z last : ℕ)
-    → AreJoining S (turn part S) (other_turn part S) T (b ∷ (a ∷ r)) l2 z last → turn part S a b z <ℤ pos 0 → ¬ Joins T a z
+    → AreJoining S part T (b ∷ (a ∷ r)) l2 z last → turn part S a b z <ℤ pos 0 → ¬ Joins T a z
 step_unjoined S apart part T b a r [] z last h p j = h
 step_unjoined S apart part T b a r (t2 ∷ r2) z last h p j =
     unjoined (sweep_setting S apart) (turn part S) (other_turn part S) (part_laws S apart part) (part_turned S part) (Joins T) b a r t2 r2 z last h p j
@@ -83,19 +83,18 @@ step_unjoined S apart part T b a r (t2 ∷ r2) z last h p j =
 step_count : (T : List Pair) (e : Pair) (b a : ℕ) (r l2 : List ℕ) (k : ℕ) → length T + length (b ∷ (a ∷ r)) + length l2 ≡ 3 * k → length (T ++ e ∷ []) + length (a ∷ r) + length l2 ≡ 3 * k
 step_count T e b a r l2 k h = omega (arith, length-append T (e ∷ []))
 
-pub step_joining : (S : List Point) (part : Part) (T : List Pair) (l l2 : List ℕ) (z last k a : ℕ) (e : Pair) → e.lo ≡ min a z → e.hi ≡ max a z
-    → SeesLastSide (turn part S) l z a → IsJoining S (turn part S) (other_turn part S) T l l2 z last k
-    → IsJoining S (turn part S) (other_turn part S) (T ++ e ∷ []) (shortened l) l2 z last k
-step_joining S part T l l2 z last k a e hl hh seen m =
+pub step_joining : (S : List Point) (part : Part) (T : List Pair) (l : List ℕ) (z a : ℕ) (g : Round) (e : Pair) → e.lo ≡ min a z → e.hi ≡ max a z
+    → SeesLastSide (turn part S) l z a → IsJoining S part T l z g → IsJoining S part (T ++ e ∷ []) (shortened l) z g
+step_joining S part T l z a g e hl hh seen m =
     let he : HasEnds e a z = ends_of_new e a z hl hh in
-    let chains : AreJoining S (turn part S) (other_turn part S) T (seen.b ∷ (a ∷ seen.r)) l2 z last = subst (λ xs. AreJoining S (turn part S) (other_turn part S) T xs l2 z last) seen.is m.chains in
-    let count : length T + length (seen.b ∷ (a ∷ seen.r)) + length l2 ≡ 3 * k = subst (λ xs. length T + length xs + length l2 ≡ 3 * k) seen.is m.count in
-    subst (λ xs. IsJoining S (turn part S) (other_turn part S) (T ++ e ∷ []) (shortened xs) l2 z last k) (sym seen.is)
+    let chains : AreJoining S part T (seen.b ∷ (a ∷ seen.r)) g.others z g.last = subst (λ xs. AreJoining S part T xs g.others z g.last) seen.is m.chains in
+    let count : length T + length (seen.b ∷ (a ∷ seen.r)) + length g.others ≡ 3 * g.count = subst (λ xs. length T + length xs + length g.others ≡ 3 * g.count) seen.is m.count in
+    subst (λ xs. IsJoining S part (T ++ e ∷ []) (shortened xs) z g) (sym seen.is)
     (record {
       apart = m.apart;
-      chains = step_chains S m.apart part T seen.b a seen.r l2 z last e he chains seen.right;
-      distinct = push_distinct T e a z he (step_unjoined S m.apart part T seen.b a seen.r l2 z last chains seen.right) m.distinct;
-      count = step_count T e seen.b a seen.r l2 k count;
+      chains = step_chains S m.apart part T seen.b a seen.r g.others z g.last e he chains seen.right;
+      distinct = push_distinct T e a z he (step_unjoined S m.apart part T seen.b a seen.r g.others z g.last chains seen.right) m.distinct;
+      count = step_count T e seen.b a seen.r g.others g.count count;
     })
 
 pub shorter : (o : ℕ → ℕ → ℕ → ℤ) (l : List ℕ) (z a : ℕ) → SeesLastSide o l z a → length (shortened l) < length l

@@ -2,7 +2,7 @@ pub mod Signs
 pub mod Field
 pub mod Turns
 pub mod Sides
-pub mod State
+pub mod Adding
 pub mod Wedge
 pub mod Step
 pub mod Moves

@@ -9,8 +9,9 @@ use Rattle.triangulate.proofs.Field.{Setting, Laws, flip, by_place}
 use Rattle.triangulate.proofs.Turns.{not_positive}
 use Rattle.triangulate.specs.Sides.{UpTo, AllLeft, Clear, Empty}
 use Rattle.number_laws.proofs.Signs.{weak_same}
+use Rattle.triangulate.proofs.Field.{view}
 
-pub empty_next : (E : Setting) (o : ℕ → ℕ → ℕ → ℤ) (p q r : ℕ) → Empty E.n E.B o p q r → Empty E.n E.B o q r p
+pub empty_next : (E : Setting) (o : ℕ → ℕ → ℕ → ℤ) (p q r : ℕ) → Empty (view E o) p q r → Empty (view E o) q r p
 empty_next E o p q r h = record { none = λ s sn a b c g. h.none s sn c a b (g.2, g.0, g.1) }
 
 zero_between : (x y : ℤ) → y ≡ neg_ℤ x → pos 0 ≤ℤ x → pos 0 ≤ℤ y → x ≡ pos 0
@@ -28,7 +29,7 @@ amid_all a b c d q ha hb hd = let r : a ≤ℤ b = q.rises (omega (arith, ints))
 
 -- where z is right of the side a to b, no point lies in the triangle b a z
 pub empty_side : (E : Setting) (o : ℕ → ℕ → ℕ → ℤ) → Laws E o → (a b z : ℕ) → a < E.n → b < E.n → z < E.n → E.B a b → E.B b z
-    → AllLeft E.n E.B o (λ s. E.B s z) a b → Clear E.n E.B o a b → o a b z <ℤ pos 0 → Empty E.n E.B o b a z
+    → AllLeft (view E o) (λ s. E.B s z) a b → Clear (view E o) a b → o a b z <ℤ pos 0 → Empty (view E o) b a z
 empty_side E o L a b z an bn zn hab hbz left clear h = record {
   none = λ s sn nb na nz g.
       by_place E s z sn zn
@@ -49,7 +50,7 @@ empty_side E o L a b z an bn zn hab hbz left clear h = record {
 
 -- where z isn't right of the side c to a, the points before a are left of a to z
 pub settled_before : (E : Setting) (o : ℕ → ℕ → ℕ → ℤ) → Laws E o → (c a z s : ℕ) → c < E.n → s < E.n → E.B c a → E.B a z
-    → AllLeft E.n E.B o (λ s. E.B s z) c a → pos 0 ≤ℤ o c a z → E.B s a → pos 0 ≤ℤ o a z s
+    → AllLeft (view E o) (λ s. E.B s z) c a → pos 0 ≤ℤ o c a z → E.B s a → pos 0 ≤ℤ o a z s
 settled_before E o L c a z s cn sn hca haz left h hsa =
     let hs : pos 0 ≤ℤ o c a s = left s sn (E.trans s a z hsa haz) in
     weak_same (o s a z) (o a z s) (sym (L.cycle s a z))
@@ -83,7 +84,7 @@ both_signs x g h = omega (arith, ints)
 
 -- the two are the same side
 pub one_side : (E : Setting) (o : ℕ → ℕ → ℕ → ℤ) → Laws E o → (Q : ℕ → Type 0) → ((s : ℕ) → s < E.n → Q s) → (a b i j : ℕ) → a < E.n → b < E.n → i < E.n → j < E.n
-    → E.B a b → AllLeft E.n E.B o Q a b → Clear E.n E.B o a b → E.B i j → AllLeft E.n E.B o Q i j → Clear E.n E.B o i j
+    → E.B a b → AllLeft (view E o) Q a b → Clear (view E o) a b → E.B i j → AllLeft (view E o) Q i j → Clear (view E o) i j
     → UpTo E.B a i → E.B i b → (a ≡ i) × (b ≡ j)
 one_side E o L Q all a b i j an bn iN jn hab left clear hij left2 clear2 (inl e) hib =
     let hib2 : E.B a j = subst (λ x. E.B x j) (sym e) hij in

@@ -1,63 +1,42 @@
--- The pairs of the state with all points are a triangulation of sweep pairs.
-use Rattle.std.proofs.Common.{◌≡◌, ◌≢◌, ℕ, ℤ, pos, neg_ℤ, ◌<◌, ◌⊎◌, inl, inr, subst, List, length, arith}
-use Rattle.std.specs.Prelude.{◌<ℤ◌}
-use Rattle.std.proofs.lemmas.Int.{ints}
+-- The pairs of the front with all points are a triangulation of sweep pairs.
+use Rattle.std.proofs.Common.{◌≢◌, ℕ, ◌<◌, ◌⊎◌, inl, inr, List, length, arith}
 use Rattle.plane.specs.declared.coordinates.Point.{Point}
 use Rattle.plane.specs.declared.segment.Pair.{Pair}
-use Rattle.plane.specs.Geometry.{point, orientation, IsBetween, IsClear, IsBorderPair, AreCrossing}
+use Rattle.plane.specs.Geometry.{point, orientation, IsClear, IsBorderPair}
 use Rattle.plane.specs.Accepted.{AreApart}
 use Rattle.partition_defs.specs.Partition.{Joins}
 use Rattle.partition_defs.specs.Triangulation.{IsTriangulation, IsApex}
 use Rattle.partition_defs.specs.Sweep.{IsSweptBefore, IsSweptBeforeLater, IsSweepPair, AreSweepPairs}
 use Rattle.plane_laws.proofs.Between.{between_is_amid, amid_is_between}
-use Rattle.triangulate.proofs.Field.{Setting, Laws, by_place}
-use Rattle.plane.proofs.laws.Opposite.{opposite_neg as opposite_signs}
+use Rattle.triangulate.proofs.Field.{Setting, view, by_place}
 use Rattle.triangulate.proofs.Final.{All, apex_of, border_of, linked, met_of, plane_of}
 use Rattle.triangulate.proofs.Places.{sweep_setting, plane_laws, opposite_laws, opposite_turned}
 use Rattle.triangulate.specs.Sides.{Clear}
-use Rattle.triangulate.specs.State.{Links, Sweeps, Apex, Pairs, Whole}
+use Rattle.triangulate.specs.Front.{Links, Sweeps, Apex, Pairs, Whole}
 use Rattle.triangulate.specs.Swept.{opposite}
 use Rattle.triangulate.specs.SweepSet.{IsSweepSet}
 use Rattle.partition_defs.proofs.laws.Joined.{contains_joins}
-use Rattle.plane.proofs.laws.Area.{scalar_swap}
 use Rattle.number_laws.proofs.Naturals.{below_differs}
+use Rattle.triangulate.specs.Swept.{swept_sight}
+use Rattle.plane.proofs.laws.Border.{clear_back, border_back}
+use Rattle.plane.proofs.laws.Crossings.{cross_first}
 
--- the state of the sweep over the points S with all of them in it
+-- the front of the sweep over the points S with all of them in it
 abbrev pub Swept : (S : List Point) → AreApart S → List Pair → (r r2 : List ℕ) → (z : ℕ) → Type 0
-Swept S apart T r r2 z = Whole (length S) (IsSweptBefore S) (orientation S) (opposite S) (Joins T) r r2 z
+Swept S apart T r r2 z = Whole (swept_sight S (orientation S)) (swept_sight S (opposite S)) (Joins T) r r2 z
 
-zero_round : (x y v : ℤ) → y ≡ x → v ≡ neg_ℤ y → x ≡ pos 0 → v ≡ pos 0
-zero_round x y v e f h = omega (arith, ints)
-
-pub between_swap : (S : List Point) (apart : AreApart S) (k i j : ℕ) → IsBetween S k i j → IsBetween S k j i
-between_swap S apart k i j h =
-    let L : Laws (sweep_setting S apart) (orientation S) = plane_laws S apart in (
-      zero_round (orientation S i k j) (orientation S k j i) (orientation S j k i) (L.cycle i k j) (L.swap k j i) h.0,
-      subst (λ x. x <ℤ pos 0) (scalar_swap (point S k) (point S i) (point S j)) h.1,
-    )
-
-pub clear_from : (S : List Point) (apart : AreApart S) (i j : ℕ) → IsSweptBefore S i j → Clear (length S) (IsSweptBefore S) (orientation S) i j → IsClear S i j
+pub clear_from : (S : List Point) (apart : AreApart S) (i j : ℕ) → IsSweptBefore S i j → Clear (swept_sight S (orientation S)) i j → IsClear S i j
 clear_from S apart i j hij clear k kn h =
     let m = between_is_amid (point S k) (point S i) (point S j) hij h.0 h.1 in clear k kn m.0 m.1 h.0
 
-pub clear_to : (S : List Point) (apart : AreApart S) (i j : ℕ) → IsClear S i j → Clear (length S) (IsSweptBefore S) (orientation S) i j
+pub clear_to : (S : List Point) (apart : AreApart S) (i j : ℕ) → IsClear S i j → Clear (swept_sight S (orientation S)) i j
 clear_to S apart i j clear s sn his hsj e = clear s sn (e, amid_is_between (point S s) (point S i) (point S j) his hsj e)
-
-pub clear_swap : (S : List Point) (apart : AreApart S) (i j : ℕ) → IsClear S i j → IsClear S j i
-clear_swap S apart i j clear k kn h = clear k kn (between_swap S apart k j i h)
-
-cross_swap : (S : List Point) (apart : AreApart S) (a b c d : ℕ) → AreCrossing S a b c d → AreCrossing S b a c d
-cross_swap S apart a b c d h =
-    let L : Laws (sweep_setting S apart) (orientation S) = plane_laws S apart in (
-      opposite_signs (orientation S a b c) (orientation S a b d) (orientation S b a c) (orientation S b a d) (L.swap a b c) (L.swap a b d) h.0,
-      elim h.1 [ inl g ↦ inr (g.1, g.0) | inr g ↦ inl (g.1, g.0) ],
-    )
 
 later : (S : List Point) (apart : AreApart S) (i j k : ℕ) → IsSweptBefore S i j → IsSweptBeforeLater S k i j → IsSweptBefore S k j
 later S apart i j k hij (inl h) = (sweep_setting S apart).trans k i j h hij
 later S apart i j k hij (inr h) = h
 
-sweep_pair_ordered : (S : List Point) (apart : AreApart S) (i j : ℕ) → IsSweptBefore S i j → Sweeps (length S) (IsSweptBefore S) (orientation S) i j → IsSweepPair S i j
+sweep_pair_ordered : (S : List Point) (apart : AreApart S) (i j : ℕ) → IsSweptBefore S i j → Sweeps (swept_sight S (orientation S)) i j → IsSweepPair S i j
 sweep_pair_ordered S apart i j hij s =
     let E : Setting = sweep_setting S apart in (
       clear_from S apart i j hij s.clear,
@@ -66,14 +45,14 @@ sweep_pair_ordered S apart i j hij s =
 
 sweep_pair_swap : (S : List Point) (apart : AreApart S) (i j : ℕ) → IsSweepPair S i j → IsSweepPair S j i
 sweep_pair_swap S apart i j h = (
-  clear_swap S apart i j h.0,
-  λ k l kn ln hk hl c. h.1 k l kn ln (elim hk [ inl x ↦ inr x | inr x ↦ inl x ]) (elim hl [ inl x ↦ inr x | inr x ↦ inl x ]) (cross_swap S apart j i k l c),
+  clear_back S i j h.0,
+  λ k l kn ln hk hl c. h.1 k l kn ln (elim hk [ inl x ↦ inr x | inr x ↦ inl x ]) (elim hl [ inl x ↦ inr x | inr x ↦ inl x ]) (cross_first (point S j) (point S i) (point S k) (point S l) c),
 )
 
 pub sweep_pair_of : (S : List Point) (apart : AreApart S) (T : List Pair) (r r2 : List ℕ) (z : ℕ) → Swept S apart T r r2 z → (i j : ℕ) → Joins T i j → IsSweepPair S i j
 sweep_pair_of S apart T r r2 z m i j k =
     let E : Setting = sweep_setting S apart in
-    let M : Pairs E.n E.B (orientation S) (Joins T) z = m.pairs in
+    let M : Pairs (view E (orientation S)) (Joins T) z = m.pairs in
     by_place E i j (M.in_first i j k) (M.in_first j i (M.back i j k))
     (λ h. sweep_pair_ordered S apart i j h (M.sweeps i j k h))
     (λ e. absurd (M.differ i j k e))
@@ -88,9 +67,6 @@ border_ordered S apart T r r2 z m all i j iN jn hij h =
     border_of (sweep_setting S apart) (orientation S) (opposite S) (plane_laws S apart) (opposite_laws S apart) (opposite_turned S) (Joins T) r r2 z m all
     i j iN jn hij (clear_to S apart i j h.0) h.1
 
-pub border_swap : (S : List Point) (apart : AreApart S) (i j : ℕ) → IsBorderPair S i j → IsBorderPair S j i
-border_swap S apart i j h = (clear_swap S apart i j h.0, elim h.1 [ inl g ↦ inr g | inr g ↦ inl g ])
-
 -- a border pair is a side of one of the chains, one way round or the other
 pub border_links : (S : List Point) (apart : AreApart S) (T : List Pair) (r r2 : List ℕ) (z : ℕ) → Swept S apart T r r2 z → All (sweep_setting S apart) z
     → (i j : ℕ) → i < length S → j < length S → i ≢ j → IsBorderPair S i j → (Links z r i j ⊎ Links z r2 i j) ⊎ (Links z r j i ⊎ Links z r2 j i)
@@ -98,21 +74,21 @@ border_links S apart T r r2 z m all i j iN jn hne h =
     by_place (sweep_setting S apart) i j iN jn
     (λ p. inl (border_ordered S apart T r r2 z m all i j iN jn p h))
     (λ e. absurd (hne e))
-    (λ p. inr (border_ordered S apart T r r2 z m all j i jn iN p (border_swap S apart i j h)))
+    (λ p. inr (border_ordered S apart T r r2 z m all j i jn iN p (border_back S i j h)))
 
 met_in : (S : List Point) (apart : AreApart S) (T : List Pair) (r r2 : List ℕ) (z : ℕ) → Swept S apart T r r2 z → (p : ℕ) → (q : ℕ) × Joins T p q → (q : ℕ) × (q < length S) × Joins T p q
 met_in S apart T r r2 z m p h =
-    let M : Pairs (length S) (IsSweptBefore S) (orientation S) (Joins T) z = m.pairs in
+    let M : Pairs (swept_sight S (orientation S)) (Joins T) z = m.pairs in
     (h.0, M.in_first h.0 p (M.back p h.0 h.1), h.1)
 
-apex_in : (S : List Point) (apart : AreApart S) (T : List Pair) (p q : ℕ) → Apex (length S) (IsSweptBefore S) (orientation S) (Joins T) p q → (r : ℕ) × IsApex S T p q r
+apex_in : (S : List Point) (apart : AreApart S) (T : List Pair) (p q : ℕ) → Apex (swept_sight S (orientation S)) (Joins T) p q → (r : ℕ) × IsApex S T p q r
 apex_in S apart T p q a = (a.r, record { within = a.r_in; first = a.first; second = a.second; left = a.left; empty = λ s sn np nq nr h. a.empty.none s sn np nq nr h })
 
 pub is_triangulation : (S : List Point) (apart : AreApart S) (T : List Pair) (r r2 : List ℕ) (z u : ℕ) → Swept S apart T r r2 z → All (sweep_setting S apart) z
     → u < length S → u ≢ z → IsTriangulation S T
 is_triangulation S apart T r r2 z u m all un hu =
     let E : Setting = sweep_setting S apart in
-    let M : Pairs E.n E.B (orientation S) (Joins T) z = m.pairs in
+    let M : Pairs (view E (orientation S)) (Joins T) z = m.pairs in
     record {
       within = λ e h. M.in_first e.hi e.lo (M.back e.lo e.hi (contains_joins T e h));
       clear = λ e h. (sweep_pair_of S apart T r r2 z m e.lo e.hi (contains_joins T e h)).0;
@@ -126,13 +102,13 @@ is_triangulation S apart T r r2 z u m all un hu =
     }
 
 -- each sweep pair is among the pairs
-sweeps_of : (S : List Point) (apart : AreApart S) (i j : ℕ) → IsSweepPair S i j → Sweeps (length S) (IsSweptBefore S) (orientation S) i j
+sweeps_of : (S : List Point) (apart : AreApart S) (i j : ℕ) → IsSweepPair S i j → Sweeps (swept_sight S (orientation S)) i j
 sweeps_of S apart i j h = record { clear = clear_to S apart i j h.0; alone = λ k l kn ln hk hl. h.1 k l kn ln (inr hk) (inr hl) }
 
 pub sweep_pair_joined : (S : List Point) (apart : AreApart S) (T : List Pair) (r r2 : List ℕ) (z : ℕ) → Swept S apart T r r2 z → All (sweep_setting S apart) z
     → (i j : ℕ) → i < length S → j < length S → i ≢ j → IsSweepPair S i j → Joins T i j
 sweep_pair_joined S apart T r r2 z m all i j iN jn hne h =
-    let M : Pairs (length S) (IsSweptBefore S) (orientation S) (Joins T) z = m.pairs in
+    let M : Pairs (swept_sight S (orientation S)) (Joins T) z = m.pairs in
     by_place (sweep_setting S apart) i j iN jn
     (λ p. m.whole i j iN jn p (all j jn) (sweeps_of S apart i j h))
     (λ e. absurd (hne e))

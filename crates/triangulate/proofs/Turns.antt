@@ -10,17 +10,19 @@ use Rattle.triangulate.specs.Sides.{AllLeft, Beyond, Cross}
 use Rattle.plane.proofs.laws.Opposite.{opposite_neg}
 use Rattle.number_laws.proofs.Signs.{positive_of_neg, zero_not_negative, zero_not_positive}
 use Rattle.number_laws.proofs.Signs.{weak_same, positive_same}
+use Rattle.triangulate.specs.Sides.{Sight}
+use Rattle.triangulate.proofs.Field.{view}
 
 -- the chain doesn't turn to the right at a
-abbrev pub Spine : (n : ℕ) (B : ℕ → ℕ → Type 0) (o : ℕ → ℕ → ℕ → ℤ) (a z : ℕ) → Type 0
-Spine n B o a z = (k l : ℕ) → k < n → l < n → B k a → B a l → B l z → pos 0 ≤ℤ o k a l
+abbrev pub Spine : (V : Sight) (a z : ℕ) → Type 0
+Spine V a z = (k l : ℕ) → k < V.count → l < V.count → V.Before k a → V.Before a l → V.Before l z → pos 0 ≤ℤ V.sign k a l
 
 pub not_positive : (x y : ℤ) → y ≡ neg_ℤ x → pos 0 ≤ℤ y → x ≤ℤ pos 0
 not_positive x y e h = omega (arith, ints)
 
 -- where z is right of the side a to b, the points after a are left of a to z
 pub beyond_side : (E : Setting) (o : ℕ → ℕ → ℕ → ℤ) → Laws E o → (a b z : ℕ) → b < E.n → E.B a b → E.B b z
-    → AllLeft E.n E.B o (λ s. E.B s z) a b → o a b z <ℤ pos 0 → Beyond E.n E.B o a z
+    → AllLeft (view E o) (λ s. E.B s z) a b → o a b z <ℤ pos 0 → Beyond (view E o) a z
 beyond_side E o L a b z bn hab hbz left h s sn has hsz =
     by_place E s b sn bn
     (λ p. positive_of_neg (o a s z) (o a z s) (flip E o L a s z)
@@ -32,7 +34,7 @@ beyond_side E o L a b z bn hab hbz left h s sn has hsz =
 
 -- a side's first point is on the spine
 pub spine_side : (E : Setting) (o : ℕ → ℕ → ℕ → ℤ) → Laws E o → (a b z : ℕ) → b < E.n → E.B a b → E.B b z
-    → AllLeft E.n E.B o (λ s. E.B s z) a b → Spine E.n E.B o a z
+    → AllLeft (view E o) (λ s. E.B s z) a b → Spine (view E o) a z
 spine_side E o L a b z bn hab hbz left k l kn ln hka hal hlz =
     let kab : pos 0 ≤ℤ o k a b = weak_same (o a b k) (o k a b) (L.cycle k a b) (left k kn (E.trans k a z hka (E.trans a b z hab hbz))) in
     by_place E l b ln bn
@@ -69,7 +71,7 @@ two_signs x g h = absurd (omega (arith, ints))
 
 -- a joined pair crosses nothing among the points before its later end: k right and l left of it
 crosses_none : (E : Setting) (o : ℕ → ℕ → ℕ → ℤ) → Laws E o → (a z k l : ℕ) → a < E.n → k < E.n → l < E.n → E.B a z → E.B k z → E.B l z
-    → Beyond E.n E.B o a z → Spine E.n E.B o a z → o a z k <ℤ pos 0 → pos 0 <ℤ o a z l → AreOpposite (o k l a) (o k l z) → ⊥
+    → Beyond (view E o) a z → Spine (view E o) a z → o a z k <ℤ pos 0 → pos 0 <ℤ o a z l → AreOpposite (o k l a) (o k l z) → ⊥
 crosses_none E o L a z k l an kn ln haz hkz hlz beyond spine hk hl h =
     by_place E a k an kn
     (λ p. two_signs (o a z k) hk (beyond k kn p hkz))
@@ -89,7 +91,7 @@ crosses_none E o L a z k l an kn ln haz hkz hlz beyond spine hk hl h =
     (opposite_neg (o k l a) (o k l z) (o l k a) (o l k z) (L.swap k l a) (L.swap k l z) h) laz kaz)))
 
 pub no_crossing : (E : Setting) (o : ℕ → ℕ → ℕ → ℤ) → Laws E o → (a z k l : ℕ) → a < E.n → k < E.n → l < E.n → E.B a z → E.B k z → E.B l z
-    → Beyond E.n E.B o a z → Spine E.n E.B o a z → ¬ Cross o a z k l
+    → Beyond (view E o) a z → Spine (view E o) a z → ¬ Cross o a z k l
 no_crossing E o L a z k l an kn ln haz hkz hlz beyond spine h =
     elim h.0 [
       | inl g ↦ crosses_none E o L a z k l an kn ln haz hkz hlz beyond spine g.0 g.1 h.1

@@ -4,9 +4,10 @@ use Rattle.std.specs.Prelude.{◌<ℤ◌, ◌≤ℤ◌}
 use Rattle.std.proofs.lemmas.Int.{ints}
 use Rattle.number_laws.proofs.Signs.{by_sign, positive_of_neg, zero_of_neg, zero_not_negative, zero_not_positive, weak_of_positive}
 use Rattle.triangulate.specs.Sides.{AllLeft, Clear, Beyond}
-use Rattle.triangulate.specs.State.{Sweeps}
+use Rattle.triangulate.specs.Front.{Sweeps}
 use Rattle.triangulate.proofs.Field.{Setting, Laws, flip, zero_ends, by_place}
 use Rattle.triangulate.proofs.Sides.{before_all, amid_all}
+use Rattle.triangulate.proofs.Field.{view}
 
 turned_low : (x y : ℤ) → y ≡ neg_ℤ x → pos 0 <ℤ x → y <ℤ pos 0
 turned_low x y e h = omega (arith, ints)
@@ -23,7 +24,7 @@ about E o L a z i = L.swap z i a ∙ ap neg_ℤ (L.cycle a z i)
 
 -- between the rays from z to a and to b there is none
 inside : (E : Setting) (o : ℕ → ℕ → ℕ → ℤ) → Laws E o → (a b z i : ℕ) → a < E.n → b < E.n → i < E.n → E.B a b → E.B b z → E.B i z
-    → AllLeft E.n E.B o (λ s. E.B s z) a b → Clear E.n E.B o a b → o a b z <ℤ pos 0 → Sweeps E.n E.B o i z → pos 0 <ℤ o a z i → o b z i <ℤ pos 0 → ⊥
+    → AllLeft (view E o) (λ s. E.B s z) a b → Clear (view E o) a b → o a b z <ℤ pos 0 → Sweeps (view E o) i z → pos 0 <ℤ o a z i → o b z i <ℤ pos 0 → ⊥
 inside E o L a b z i an bn iN hab hbz hiz left clear h k ga gb =
     by_sign (o a b i)
     (λ p. k.alone a b an bn (E.trans a b z hab hbz) hbz
@@ -39,7 +40,7 @@ inside E o L a b z i an bn iN hab hbz hiz left clear h k ga gb =
     (λ p. no_low (o a b i) (left i iN hiz) p)
 
 pub wedge : (E : Setting) (o : ℕ → ℕ → ℕ → ℤ) → Laws E o → (a b z i : ℕ) → a < E.n → b < E.n → z < E.n → i < E.n → E.B a b → E.B b z → E.B i z
-    → AllLeft E.n E.B o (λ s. E.B s z) a b → Clear E.n E.B o a b → o a b z <ℤ pos 0 → Beyond E.n E.B o a z → Sweeps E.n E.B o i z → o b z i <ℤ pos 0
+    → AllLeft (view E o) (λ s. E.B s z) a b → Clear (view E o) a b → o a b z <ℤ pos 0 → Beyond (view E o) a z → Sweeps (view E o) i z → o b z i <ℤ pos 0
     → (i ≡ a) ⊎ (o a z i <ℤ pos 0)
 wedge E o L a b z i an bn zn iN hab hbz hiz left clear h far k gb =
     by_place E i a iN an
@@ -51,7 +52,7 @@ wedge E o L a b z i an bn zn iN hab hbz hiz left clear h far k gb =
     (λ q. absurd (inside E o L a b z i an bn iN hab hbz hiz left clear h k (far i iN q hiz) gb))
 
 -- a sweep pair of z with another point than the last one lies beyond one of its two sides
-pub aside : (E : Setting) (o w : ℕ → ℕ → ℕ → ℤ) → Laws E o → ((p q r : ℕ) → w p q r ≡ neg_ℤ (o p q r)) → (last z i : ℕ) → last < E.n → E.B last z → E.B i last → Sweeps E.n E.B o i z
+pub aside : (E : Setting) (o w : ℕ → ℕ → ℕ → ℤ) → Laws E o → ((p q r : ℕ) → w p q r ≡ neg_ℤ (o p q r)) → (last z i : ℕ) → last < E.n → E.B last z → E.B i last → Sweeps (view E o) i z
     → (o last z i <ℤ pos 0) ⊎ (w last z i <ℤ pos 0)
 aside E o w L tr last z i ln hlz hil k =
     by_sign (o last z i)

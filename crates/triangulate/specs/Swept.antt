@@ -1,5 +1,5 @@
 -- For private clauses.
--- The sweep's state over a list of points: the pairs so far, and the lower and the upper chain, the last point first.
+-- The sweep's front over a list of points: the pairs so far, and the lower and the upper chain, the last point first.
 use Rattle.std.specs.Prelude.{◌≡◌, ◌+◌, ◌*◌, ◌<◌, ℕ, ℤ, pos, neg_ℤ, ◌<ℤ◌, List, [], ◌∷◌, length}
 use Rattle.plane.specs.declared.coordinates.Point.{Point}
 use Rattle.plane.specs.declared.segment.Pair.{Pair}
@@ -10,8 +10,8 @@ use Rattle.partition_defs.specs.Triangulation.{AreDistinct}
 use Rattle.partition_defs.specs.Sweep.{IsSweptBefore}
 use Rattle.triangulate.specs.declared.sweep.Part.{Part}
 use Rattle.triangulate.specs.declared.sweep.Part.TheVariants.{Lower, Upper}
-use Rattle.triangulate.specs.Sides.{UpTo}
-use Rattle.triangulate.specs.State.{Whole, Joining, Settled}
+use Rattle.triangulate.specs.Sides.{Sight, UpTo}
+use Rattle.triangulate.specs.Front.{Whole, strand, Joining, Settled}
 
 -- the orientation turned over
 abbrev pub opposite : List Point → (p q r : ℕ) → ℤ
@@ -27,25 +27,40 @@ abbrev pub other_turn : Part → List Point → (p q r : ℕ) → ℤ
 other_turn Lower S = opposite S
 other_turn Upper S = orientation S
 
--- while z is joined, with both chains of some point
-abbrev pub AreJoining : List Point → (o w : ℕ → ℕ → ℕ → ℤ) → List Pair → (l l2 : List ℕ) → (z last : ℕ) → Type 0
-AreJoining S o w T [] l2 z last = ⊥
-AreJoining S o w T (t ∷ r) [] z last = ⊥
-AreJoining S o w T (t ∷ r) (t2 ∷ r2) z last = Joining (length S) (IsSweptBefore S) o w (Joins T) t r t2 r2 z last
+abbrev pub other_part : Part → Part
+other_part Lower = Upper
+other_part Upper = Lower
 
--- the state while z, the point after k points, is joined
-pub record IsJoining (S : List Point) (o w : ℕ → ℕ → ℕ → ℤ) (T : List Pair) (l l2 : List ℕ) (z last k : ℕ) : Type 0 where
+-- the points in the order of the sweep, with these signs
+abbrev pub swept_sight : List Point → (ℕ → ℕ → ℕ → ℤ) → Sight
+swept_sight S o = record { count = length S; Before = IsSweptBefore S; sign = o }
+
+-- while z is joined, with both chains of some point: the chain l of this part, the chain l2 of the other
+abbrev pub AreJoining : List Point → Part → List Pair → (l l2 : List ℕ) → (z last : ℕ) → Type 0
+AreJoining S part T [] l2 z last = ⊥
+AreJoining S part T (t ∷ r) [] z last = ⊥
+AreJoining S part T (t ∷ r) (t2 ∷ r2) z last =
+    Joining (swept_sight S (turn part S)) (swept_sight S (other_turn part S)) (Joins T) (strand t r) (strand t2 r2) z last
+
+-- what else stands while a point is joined: the other part's chain, the last point before it, and how many came before
+pub record Round : Type 0 where
+  pub others : List ℕ
+  pub last : ℕ
+  pub count : ℕ
+
+-- the front while z is joined from the part whose chain is l
+pub record IsJoining (S : List Point) (part : Part) (T : List Pair) (l : List ℕ) (z : ℕ) (round : Round) : Type 0 where
   pub apart : AreApart S
-  pub chains : AreJoining S o w T l l2 z last
+  pub chains : AreJoining S part T l round.others z round.last
   pub distinct : AreDistinct T
-  pub count : length T + length l + length l2 ≡ 3 * k
+  pub count : length T + length l + length round.others ≡ 3 * round.count
 
 abbrev pub AreWhole : List Point → List Pair → (l l2 : List ℕ) → ℕ → Type 0
 AreWhole S T [] l2 z = ⊥
 AreWhole S T (t ∷ r) [] z = ⊥
-AreWhole S T (t ∷ r) (t2 ∷ r2) z = (t ≡ z) × (t2 ≡ z) × Whole (length S) (IsSweptBefore S) (orientation S) (opposite S) (Joins T) r r2 z
+AreWhole S T (t ∷ r) (t2 ∷ r2) z = (t ≡ z) × (t2 ≡ z) × Whole (swept_sight S (orientation S)) (swept_sight S (opposite S)) (Joins T) r r2 z
 
--- the state after k points, of which z is the last
+-- the front after k points, of which z is the last
 pub record IsSwept (S : List Point) (T : List Pair) (l l2 : List ℕ) (z k : ℕ) : Type 0 where
   pub apart : AreApart S
   pub chains : AreWhole S T l l2 z
@@ -70,7 +85,7 @@ pub record IsSweptNext (S : List Point) (last z : ℕ) : Type 0 where
   pub before : IsSweptBefore S last z
   pub next : (s : ℕ) → s < length S → IsSweptBefore S s z → UpTo (IsSweptBefore S) s last
 
--- the state after all points
+-- the front after all points
 pub record IsSweptWhole (S : List Point) (T : List Pair) (l l2 : List ℕ) : Type 0 where
   pub accepted : AreAccepted S
   pub z : ℕ

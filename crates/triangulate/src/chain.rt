@@ -5,7 +5,7 @@ ghost use Rattle.triangulate.specs.Chains.{last_side, shortened};
 use std::alloc::{AllocError, Global};
 use std::marker::Model;
 
-// Contracts see the points, the last one first.
+/// Contracts see the points, the last one first.
 #[derive(Drop)]
 pub struct Chain {
     points: Vec<u32>,
@@ -20,7 +20,7 @@ impl Model for Chain {
 }
 
 impl Chain {
-    // A chain of no point.
+    /// A chain of no point.
     pub fn new(alloc: Global) -> Chain
         ensures { result ≡ [] }
     {
@@ -29,7 +29,7 @@ impl Chain {
         }
     }
 
-    // Puts a point at the end.
+    /// Puts a point at the end.
     pub fn push(&mut self, point: u32) -> Result<(), AllocError>
         ensures { IfOk result (λ _. self.new ≡ point ∷ self.old) }
     {
@@ -37,14 +37,14 @@ impl Chain {
         Ok(())
     }
 
-    // Takes the last point off.
+    /// Takes the last point off.
     pub fn shorten(&mut self)
         ensures { self.new ≡ shortened self.old }
     {
         self.points.pop();
     }
 
-    // The last two points, in their order.
+    /// The last two points, in their order.
     pub fn last_side(&self) -> Option<(u32, u32)>
         ensures { result ≡ last_side self.now }
     {

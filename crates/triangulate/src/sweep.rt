@@ -4,14 +4,15 @@ ghost use Rattle.std.specs.List.{All};
 ghost use Rattle.plane.specs.Accepted.{AreAccepted};
 ghost use Rattle.triangulate.specs.Order.{IsSweepOrder};
 ghost use Rattle.triangulate.specs.Start.{IsStart};
-ghost use Rattle.triangulate.specs.Swept.{turn, other_turn, IsJoining, IsSettled, SeesLastSide, IsSwept, IsSweptNext, IsSweptWhole};
+ghost use Rattle.triangulate.specs.Swept.{turn, Round, IsJoining, IsSettled, SeesLastSide};
+ghost use Rattle.triangulate.specs.Swept.{IsSwept, IsSweptNext, IsSweptWhole};
 
 use crate::chain::Chain;
 use crate::order::sweep_order;
 use plane::{Pair, Points, Turn};
 use std::alloc::{AllocError, Global};
 
-// A part of the border: the lower or the upper chain, from the first point of the sweep to the last.
+/// A part of the border: the lower or the upper chain, from the first point of the sweep to the last.
 #[derive(Clone, Copy)]
 pub enum Part {
     Lower,
@@ -53,8 +54,9 @@ fn join_seen(
     pairs: &mut Vec<Pair>,
     z: u32,
 ) -> Result<(), AllocError>
-    requires joining { (l2 : List ℕ) × (last : ℕ) × (k : ℕ) × IsJoining points.now (turn part points.now) (other_turn part points.now) pairs.old.items chain.old l2 z last k }
-    ensures joining { IfOk result (λ _. (l2 : List ℕ) (last k : ℕ) → IsJoining points.now (turn part points.now) (other_turn part points.now) pairs.old.items chain.old l2 z last k → IsJoining points.now (turn part points.now) (other_turn part points.now) pairs.new.items chain.new l2 z last k) }
+    requires joining { (g : Round) × IsJoining points.now part pairs.old.items chain.old z g }
+    ensures joining { IfOk result (λ _. (g : Round) → IsJoining points.now part pairs.old.items chain.old z g
+        → IsJoining points.now part pairs.new.items chain.new z g) }
     ensures settled { IfOk result (λ _. IsSettled (turn part points.now) chain.new z) }
 {
     while let Some(a) = next_seen(points, part, chain, z) {
@@ -64,7 +66,7 @@ fn join_seen(
     Ok(())
 }
 
-// The pairs so far, and the border of the points so far.
+/// The pairs so far, and the border of the points so far.
 #[derive(Drop)]
 pub struct Sweep {
     pairs: Vec<Pair>,
@@ -94,7 +96,9 @@ impl Sweep {
     fn add(&mut self, points: &Points, last: u32, z: u32) -> Result<(), AllocError>
         requires next { IsSweptNext points.now last z }
         requires swept { (k : ℕ) × IsSwept points.now self.old.pairs.items self.old.lower self.old.upper last k }
-        ensures { IfOk result (λ _. (k : ℕ) → IsSwept points.now self.old.pairs.items self.old.lower self.old.upper last k → IsSwept points.now self.new.pairs.items self.new.lower self.new.upper z (k + 1)) }
+        ensures { IfOk result (λ _. (k : ℕ)
+            → IsSwept points.now self.old.pairs.items self.old.lower self.old.upper last k
+            → IsSwept points.now self.new.pairs.items self.new.lower self.new.upper z (k + 1)) }
     {
         self.pairs.push(Pair::of(last, z))?;
         join_seen(points, Part::Lower, &mut self.lower, &mut self.pairs, z)?;

@@ -1,2 +1,9 @@
 mod Lines
 mod Found
+mod Nearer
+mod Precedence
+mod Listed
+mod Coming
+mod Tables
+mod Cleared
+mod Listing

@@ -6,7 +6,7 @@ ghost use Rattle.directions.specs.Key.{share, across, upward, line_key};
 use plane::{Point, Points};
 
 // How far two coordinates are apart.
-fn size(from: i64, to: i64) -> u64
+pub fn size(from: i64, to: i64) -> u64
     requires near_from { unsigned_abs from ≤ 2305843009213693951 }
     requires near_to { unsigned_abs to ≤ 2305843009213693951 }
     ensures size { result ≡ unsigned_abs (to -ℤ from) }
@@ -17,7 +17,7 @@ fn size(from: i64, to: i64) -> u64
 
 // How far a direction is through its quarter, in parts of 2^31. Where 64 bits are enough, they are quicker.
 #[tactic(auto, unfolding(crate::specs::Key::share))]
-fn share_of(x: u64, y: u64) -> u32
+pub fn share_of(x: u64, y: u64) -> u32
     requires below_x { x < 4611686018427387904 }
     requires below_y { y < 4611686018427387904 }
     requires some { 0 < x + y }

@@ -1,0 +1,3 @@
+mod Firsts
+mod Placed
+mod Apart

@@ -1,0 +1,5 @@
+use Rattle.crossings.specs.Segments.{AreBoundedBelow}
+use Rattle.crossings.proofs.blocks.bound_blocks.Given as goal
+
+abbrev pub invariant-loop-i : goal.invariant-loop-i
+invariant-loop-i l = AreBoundedBelow l.segments l.blocks l.i

@@ -36,8 +36,8 @@ impl Model for Opposites {
 }
 
 // Takes all marks away.
-fn clear_marks(marks: &mut Vec<u8>)
-    ensures { AreClear marks.new.items (length marks.old.items) }
+fn clear_marks(marks: &mut [u8])
+    ensures { AreClear marks.new (length marks.old) }
 {
     for b in 0..marks.len() {
         marks[b] = 0;
@@ -45,11 +45,11 @@ fn clear_marks(marks: &mut Vec<u8>)
 }
 
 // Notes a key, and marks its bucket: 1 for one key, 2 for more.
-fn mark(keys: &mut Vec<u32>, marks: &mut Vec<u8>, q: u32, key: u32)
-    requires q_in { q < length keys.old.items }
-    requires room { length marks.old.items ≡ 131071 }
-    ensures keys { keys.new.items ≡ set keys.old.items q key }
-    ensures marks { IsBumped marks.old.items (key % 131071) marks.new.items }
+fn mark(keys: &mut [u32], marks: &mut [u8], q: u32, key: u32)
+    requires q_in { q < length keys.old }
+    requires room { length marks.old ≡ 131071 }
+    ensures keys { keys.new ≡ set keys.old q key }
+    ensures marks { IsBumped marks.old (key % 131071) marks.new }
 {
     keys[q as usize] = key;
     let bucket = (key % BUCKETS) as usize;
@@ -57,11 +57,11 @@ fn mark(keys: &mut Vec<u32>, marks: &mut Vec<u8>, q: u32, key: u32)
 }
 
 // Notes and marks the keys of all points but p.
-fn mark_all(points: &Points, p: u32, keys: &mut Vec<u32>, marks: &mut Vec<u8>)
+fn mark_all(points: &Points, p: u32, keys: &mut [u32], marks: &mut [u8])
     requires p_in { p < length points.now }
-    requires count { length keys.old.items ≡ length points.now }
-    requires clear { AreClear marks.old.items 131071 }
-    ensures { AreMarked points.now p (length points.now) keys.new.items marks.new.items }
+    requires count { length keys.old ≡ length points.now }
+    requires clear { AreClear marks.old 131071 }
+    ensures { AreMarked points.now p (length points.now) keys.new marks.new }
 {
     for q in 0..points.len() {
         if q != p {
@@ -148,8 +148,13 @@ impl Opposites {
         ensures first { IfOk result (IsFirstPairOrNone (λ i j. IsBetween points.now p i j) (length points.now)) }
         ensures points { self.new ≡ self.old }
     {
-        clear_marks(&mut self.marks);
-        mark_all(points, p, &mut self.keys, &mut self.marks);
+        clear_marks(self.marks.as_mut_slice());
+        mark_all(
+            points,
+            p,
+            self.keys.as_mut_slice(),
+            self.marks.as_mut_slice(),
+        );
         gather(
             points,
             p,

@@ -147,6 +147,14 @@ some_clear S D p ok pn none =
     let h : HasNearest S p q.0 = nearest S p q.0 ok pn q.1 q.2 in
     none h.b h.within h.apart h.clear
 
+-- where no costs are listed the least cost is 1
+pub unit_least : (S : List Point) (D : List Costed) (p : ℕ) → AreAccepted S → p < length S → length D ≡ 0 → IsLeastCost S D p 1
+unit_least S [] p ok pn none =
+    let q : (q : ℕ) × (q < length S) × (q ≢ p) = another (length S) p (omega (arith, ok.count.0)) in
+    let h : HasNearest S p q.0 = nearest S p q.0 ok pn q.1 q.2 in
+    record { r = h.b; within = h.within; apart = h.apart; clear = h.clear; is = refl; least = λ s sn ne clear. omega arith }
+unit_least S (x ∷ D) p ok pn none = absurd (omega (arith, none))
+
 below_small : (S : List Point) (D : List Costed) (p k m : ℕ) → AreCheap D → IsLeastCostBelow S D p k (Some m) → m ≤ 1000
 below_small S D p k m cheap ((r, rn, ne, clear, is), least) = omega (arith, is, cheap_cost D p r cheap)
 

@@ -56,6 +56,30 @@ fn least_cost(points: &Points, costs: &Costs, p: u32) -> u64
     }
 }
 
+// The least cost at a point where no costs are listed: some pair there is clear, and each pair costs 1.
+fn unit_cost(points: &Points, costs: &Costs, p: u32) -> u64
+    requires p_in { p < length points.now }
+    requires none { length costs.now ≡ 0 }
+    ensures least { IsLeastCost points.now costs.now p result }
+    ensures small { result ≤ 1000 }
+{
+    let _count = points.len();
+    1
+}
+
+// The least cost of a clear pair at a point. No pair is tried where each costs 1.
+fn least_at(points: &Points, costs: &Costs, p: u32) -> u64
+    requires p_in { p < length points.now }
+    ensures least { IsLeastCost points.now costs.now p result }
+    ensures small { result ≤ 1000 }
+{
+    if costs.list().len() == 0 {
+        unit_cost(points, costs, p)
+    } else {
+        least_cost(points, costs, p)
+    }
+}
+
 // The rows of an inner point.
 fn push_rows(
     points: &Points,
@@ -69,7 +93,7 @@ fn push_rows(
     ensures rows { OnOk result (HasFloorRowsAt points.now costs.now p rows.old.items rows.new.items) }
     ensures points { opposites.new ≡ opposites.old }
 {
-    let w = least_cost(points, costs, p);
+    let w = least_at(points, costs, p);
     match opposites.first(points, p)? {
         Some((q, r)) => {
             rows.push(Row::Half { p, q, w })?;

@@ -36,54 +36,6 @@ pub walk_step : (S : List Point) (rows : List Row) (p r k : ℕ) → k < length 
 walk_step S rows p r k l holds =
     sum_by_more (given_at S p r) rows k (Three 0 0) l ∙ ap (λ n. sum_by (given_at S p r) (take k rows) + n) (ap (λ t. cond t (given S p r (row_at rows k)) 0) holds)
 
--- the row that gives to i-j stands at i or at j
-cond_none : (b c : Bool) (w : ℕ) → b ≡ false → c ≡ false → cond (b || c) w 0 ≡ 0
-cond_none b c w e f = ap₂ (λ x y. cond (x || y) w 0) e f
-
-parts_half : (a b : Bool) (x y : Bool) (w : ℕ) → (a ≡ true → b ≡ true → ⊥)
-    → cond ((a && x) || (b && y)) w 0 ≡ cond a (cond ((a && x) || (b && y)) w 0) 0 + cond b (cond ((b && y) || (a && x)) w 0) 0
-parts_half true true x y w never = absurd (never refl refl)
-parts_half true false true y w never = omega arith
-parts_half true false false y w never = omega arith
-parts_half false true x true w never = omega arith
-parts_half false true x false w never = omega arith
-parts_half false false x y w never = omega arith
-
-parts_three : (a b : Bool) (w : ℕ) → (a ≡ true → b ≡ true → ⊥) → cond (a || b) w 0 ≡ cond a (cond (a || b) w 0) 0 + cond b (cond (b || a) w 0) 0
-parts_three true true w never = absurd (never refl refl)
-parts_three true false w never = omega arith
-parts_three false true w never = omega arith
-parts_three false false w never = omega arith
-
-turned_eq : (i p : ℕ) → nat_eq p i ≡ nat_eq i p
-turned_eq i p = elim (nat_eq i p) as (λ t. nat_eq i p ≡ t → nat_eq p i ≡ t) [
-  | true ↦ λ t. (let e : i ≡ p = eqb-true i p t in ap (λ n. nat_eq p n) e ∙ sym (ap (λ n. nat_eq n p) e) ∙ t)
-  | false ↦ λ t. elim (nat_eq p i) as (λ s. nat_eq p i ≡ s → s ≡ false) [
-    | true ↦ λ s. absurd (false≢true (sym t ∙ (Decides-eqb i p).1 (sym (eqb-true p i s))))
-    | false ↦ λ s. refl
-  ] refl
-] refl
-
-not_both : (i j p : ℕ) → i ≢ j → nat_eq i p ≡ true → nat_eq j p ≡ true → ⊥
-not_both i j p ne a b = ne (eqb-true i p a ∙ sym (eqb-true j p b))
-
-pub given_parts : (S : List Point) (row : Row) (i j : ℕ) → i ≢ j → given S i j row ≡ given_at S i j row + given_at S j i row
-unfolding counts
-given_parts S (Half p q w) i j ne =
-    parts_half (nat_eq i p) (nat_eq j p) (in_need S p q j) (in_need S p q i) w (not_both i j p ne)
-    ∙ ap₂ (λ x y. cond x (cond ((nat_eq i p && in_need S p q j) || (nat_eq j p && in_need S p q i)) w 0) 0 + cond y (cond ((nat_eq j p && in_need S p q i) || (nat_eq i p && in_need S p q j)) w 0) 0)
-    (sym (turned_eq i p)) (sym (turned_eq j p))
-given_parts S (Three p w) i j ne =
-    parts_three (nat_eq i p) (nat_eq j p) w (not_both i j p ne)
-    ∙ ap₂ (λ x y. cond x (cond (nat_eq i p || nat_eq j p) w 0) 0 + cond y (cond (nat_eq j p || nat_eq i p) w 0) 0) (sym (turned_eq i p)) (sym (turned_eq j p))
-given_parts S (Cross e f w) i j ne = omega arith
-given_parts S (Cap e w) i j ne = omega arith
-
-pub gives_parts : (S : List Point) (rows : List Row) (i j : ℕ) → i ≢ j → gives S rows i j ≡ gives_at S rows i j + gives_at S rows j i
-gives_parts S [] i j ne = refl
-gives_parts S (row ∷ rows) i j ne =
-    omega (arith, sum_by-cons (given S i j) row rows, sum_by-cons (given_at S i j) row rows, sum_by-cons (given_at S j i) row rows, given_parts S row i j ne, gives_parts S rows i j ne)
-
 -- the row that was read is the row at the position
 pub row_read : (rows : List Row) (k : ℕ) (row : Row) → k < length rows → row ≡ get_or rows k row → row ≡ row_at rows k
 row_read rows k row l is = is ∙ get_or_default rows k row (Three 0 0) l

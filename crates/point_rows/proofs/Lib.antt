@@ -1,3 +1,4 @@
+pub mod laws
 mod Taking
 mod Links
 mod Chains

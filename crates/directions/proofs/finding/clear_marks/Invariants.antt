@@ -3,4 +3,4 @@ use Rattle.directions.specs.Opposites.{number}
 use Rattle.directions.proofs.finding.clear_marks.Given as goal
 
 abbrev pub invariant-loop-b : goal.invariant-loop-b
-invariant-loop-b l = (length l.marks.items ≡ length l.initial.marks.items) × ((b : ℕ) → b < l.b → number l.marks.items b ≡ 0)
+invariant-loop-b l = (length l.marks ≡ length l.initial.marks) × ((b : ℕ) → b < l.b → number l.marks b ≡ 0)

@@ -1,6 +1,6 @@
 use Rattle.std.proofs.Common.{arith}
 use Rattle.price_defs.proofs.laws.Values.{gives_le}
-use Rattle.point_rows.proofs.Chains.{gives_parts}
+use Rattle.point_rows.proofs.laws.Parts.{gives_parts}
 use Rattle.point_rows.proofs.point_rows.PointRows.gives.Goals as goal
 
 pub overflow_add-result : goal.overflow_add-result

@@ -10,3 +10,7 @@ pub mod Turned
 pub mod Same
 pub mod Follow
 pub mod Woven
+pub mod Turns
+pub mod Back
+pub mod Mutual
+pub mod Undone

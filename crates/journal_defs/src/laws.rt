@@ -1,12 +1,12 @@
 //! Laws of edits and journals. Each is a function that does nothing; its contract is the law.
-ghost use Rattle.std.specs.Prelude.{◌≡◌, ◌<◌, ◌⊎◌, ◌↔◌, ℕ, List, ◌++◌, true, false, length};
+ghost use Rattle.std.specs.Prelude.{◌≡◌, ◌<◌, ◌⊎◌, ◌↔◌, ℕ, Bool, List, ◌++◌, true, false, length};
 ghost use Rattle.std.specs.List.{Contains, list_any};
 ghost use Rattle.plane.specs.declared.segment.Pair.{Pair as ThePair};
 ghost use Rattle.partition_defs.specs.Partition.{IsConvexPartition};
 ghost use Rattle.partition_defs.specs.Triangulation.{IsTriangulation};
 ghost use Rattle.partition_defs.specs.Ascending.{IsAscending};
 ghost use Rattle.partition_defs.specs.Sets.{without, IsMinimal};
-ghost use Rattle.star.specs.Stars.{Seen};
+ghost use Rattle.star.specs.Stars.{Seen, IsStar};
 ghost use Rattle.star.specs.StarOf.{IsStarOf};
 ghost use Rattle.journal_defs.specs.declared.edit.Edit.{Edit as TheEdit};
 ghost use Rattle.journal_defs.specs.declared.edit.Why.{Why as TheWhy};
@@ -15,6 +15,7 @@ ghost use Rattle.journal_defs.specs.Edits.{State, after, inverse, inverse_all, I
 ghost use Rattle.journal_defs.specs.Journal.{replay, replay_from, after_all, opening, last, AreLegal, IsLegalJournal};
 ghost use Rattle.journal_defs.specs.Journal.{IsSwept, Spares, as_drops};
 ghost use Rattle.journal_defs.specs.Table.{Fits, Refuses};
+ghost use Rattle.journal_defs.specs.Turns.{stars_after, FitInTurn, AreMutual};
 ghost use Rattle.journal_defs.specs.Agree.{AreAgreeing};
 ghost use Rattle.journal_defs.specs.Neighbours.{star_list, star_value, list_after, IsWhy};
 
@@ -107,6 +108,34 @@ pub fn table_says_legality(points: &Points)
     ensures { (s : State) (at : ℕ → Seen) (e : TheEdit) → IsSound points.now s
         → ((v : ℕ) → touches e v ≡ true → IsStarOf points.now s.all s.kept v (at v))
         → (Fits points.now at e ↔ IsLegal points.now s e) }
+{
+    let _count = points.len();
+}
+
+/// Edits fit one after another on the stars of a sound state exactly where they are legal there in turn.
+pub fn fitting_is_legality(points: &Points)
+    ensures { (s : State) (at : ℕ → Seen) (es : List TheEdit) → IsSound points.now s
+        → ((v : ℕ) → list_any (λ e. touches e v) es ≡ true → v < length points.now)
+        → ((v : ℕ) → list_any (λ e. touches e v) es ≡ true → IsStarOf points.now s.all s.kept v (at v))
+        → (FitInTurn points.now at es ↔ AreLegal points.now s es) }
+{
+    let _count = points.len();
+}
+
+/// Stars that have each other, with the same marks, stay so under every edit, whether it fits or not.
+pub fn edits_keep_stars_mutual(_points: &Points)
+    ensures { (e : TheEdit) (at : ℕ → Seen) (V : ℕ → Bool) → AreMutual at (λ u. V u ≡ true)
+        → AreMutual (stars_after _points.now e at) (λ u. V u ≡ true) }
+{}
+
+/// The inverse of an edit that fits takes the lists of stars that have each other back to what they were, whether these are
+/// the stars of a state or not.
+pub fn fitting_edits_come_back(points: &Points)
+    ensures { (at : ℕ → Seen) (V : ℕ → Bool) (e : TheEdit) (v : ℕ)
+        → ((u : ℕ) → V u ≡ true → IsStar (at u) × ((at u).centre ≡ u) × ((at u).points ≡ points.now))
+        → AreMutual at (λ u. V u ≡ true) → ((u : ℕ) → touches e u ≡ true → V u ≡ true) → V v ≡ true
+        → Fits points.now at e
+        → list_after points.now v (inverse e) (list_after points.now v e (at v).list) ≡ (at v).list }
 {
     let _count = points.len();
 }

@@ -50,7 +50,7 @@ one_list_of S T K v l m a b = one_turn S v l m a.turns b.turns (λ z h. over l m
         subst (λ (x : ℕ × Bool). In x m) (ap (λ (c : Bool). (let p : ℕ × Bool = (z.0, c) in p)) (sym r.1)) (b.given z.0 r.0)
 
 -- at an end of e by the other end, elsewhere not
-at_end_cases : (e : Pair) (v : ℕ) (change : ℕ → List (ℕ × Bool)) (list : List (ℕ × Bool)) (P : List (ℕ × Bool) → Type 0) → ((w : ℕ) → HasEnds e v w → P (change w)) → (((w : ℕ) → ¬ HasEnds e v w) → P list) → P (at_end e v change list)
+pub at_end_cases : (e : Pair) (v : ℕ) (change : ℕ → List (ℕ × Bool)) (list : List (ℕ × Bool)) (P : List (ℕ × Bool) → Type 0) → ((w : ℕ) → HasEnds e v w → P (change w)) → (((w : ℕ) → ¬ HasEnds e v w) → P list) → P (at_end e v change list)
 unfolding at_end
 at_end_cases e v change list P at off =
     cond_both (nat_eq e.lo v) (change e.hi) (cond (nat_eq e.hi v) (change e.lo) list) P
@@ -63,13 +63,13 @@ at_end_cases e v change list P at off =
     ])))
 
 -- marks
-in_mark : (w : ℕ) (b : Bool) (l : List (ℕ × Bool)) (z : ℕ × Bool) → In z (mark_as w b l) → (x : ℕ × Bool) × In x l × ((x.0, cond (nat_eq x.0 w) b x.1) ≡ z)
+pub in_mark : (w : ℕ) (b : Bool) (l : List (ℕ × Bool)) (z : ℕ × Bool) → In z (mark_as w b l) → (x : ℕ × Bool) × In x l × ((x.0, cond (nat_eq x.0 w) b x.1) ≡ z)
 unfolding mark_as
 in_mark w b [] z h = absurd h
 in_mark w b (x ∷ xs) z (inl h) = (x, inl refl, h)
 in_mark w b (x ∷ xs) z (inr h) = let (y, there, is) = in_mark w b xs z h in (y, inr there, is)
 
-mark_in : (w : ℕ) (b : Bool) (l : List (ℕ × Bool)) (x : ℕ × Bool) → In x l → In (x.0, cond (nat_eq x.0 w) b x.1) (mark_as w b l)
+pub mark_in : (w : ℕ) (b : Bool) (l : List (ℕ × Bool)) (x : ℕ × Bool) → In x l → In (x.0, cond (nat_eq x.0 w) b x.1) (mark_as w b l)
 unfolding mark_as
 mark_in w b [] x h = absurd h
 mark_in w b (y ∷ ys) x (inl h) = inl (ap (λ (p : ℕ × Bool). (let q : ℕ × Bool = (p.0, cond (nat_eq p.0 w) b p.1) in q)) h)
@@ -129,7 +129,7 @@ same_list S T K U L v l all kept so =
     }
 
 -- leaving out
-in_out : (w : ℕ) (l : List (ℕ × Bool)) (z : ℕ × Bool) → In z (leave_out w l) → In z l × (z.0 ≢ w)
+pub in_out : (w : ℕ) (l : List (ℕ × Bool)) (z : ℕ × Bool) → In z (leave_out w l) → In z l × (z.0 ≢ w)
 unfolding leave_out
 in_out w [] z h = absurd h
 in_out w (x ∷ xs) z h =
@@ -141,7 +141,7 @@ in_out w (x ∷ xs) z h =
     ])
     h
 
-out_in : (w : ℕ) (l : List (ℕ × Bool)) (z : ℕ × Bool) → In z l → z.0 ≢ w → In z (leave_out w l)
+pub out_in : (w : ℕ) (l : List (ℕ × Bool)) (z : ℕ × Bool) → In z l → z.0 ≢ w → In z (leave_out w l)
 unfolding leave_out
 out_in w [] z h ne = h
 out_in w (x ∷ xs) z h ne =

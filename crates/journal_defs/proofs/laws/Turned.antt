@@ -46,7 +46,7 @@ Decides-upper c q =
     from (inr h) = inr (h.0, omega (arith, ints, h.1))
 
 -- two points that aren't the centre turn as the test says
-Decides-turns : (c q r : Point) → q ≢ c → r ≢ c → Decides (turns_before c q r) (TurnsBefore c q r)
+pub Decides-turns : (c q r : Point) → q ≢ c → r ≢ c → Decides (turns_before c q r) (TurnsBefore c q r)
 unfolding turns_before
 Decides-turns c q r hq hr = tell (is_upper c q) (is_upper c r) (Decides-upper c q) (Decides-upper c r)
   where
@@ -89,12 +89,12 @@ abbrev pub In : ℕ × Bool → List (ℕ × Bool) → Type 0
 In z [] = ⊥
 In z (x ∷ xs) = (x ≡ z) ⊎ In z xs
 
-in_at : (xs : List (ℕ × Bool)) (k : ℕ) → k < length xs → In (entry xs k) xs
+pub in_at : (xs : List (ℕ × Bool)) (k : ℕ) → k < length xs → In (entry xs k) xs
 in_at [] k h = absurd (omega arith)
 in_at (x ∷ xs) zero h = inl refl
 in_at (x ∷ xs) (suc k) h = inr (in_at xs k (omega arith))
 
-at_in : (xs : List (ℕ × Bool)) (z : ℕ × Bool) → In z xs → (k : ℕ) × (k < length xs) × (entry xs k ≡ z)
+pub at_in : (xs : List (ℕ × Bool)) (z : ℕ × Bool) → In z xs → (k : ℕ) × (k < length xs) × (entry xs k ≡ z)
 at_in [] z h = absurd h
 at_in (x ∷ xs) z (inl h) = (0, omega arith, h)
 at_in (x ∷ xs) z (inr h) = let (k, l, at) = at_in xs z h in (suc k, omega arith, at)
@@ -111,7 +111,7 @@ in_turn S v (x ∷ xs) t zero (suc j) ij h = t.0 (entry xs j) (in_at xs j (omega
 in_turn S v (x ∷ xs) t (suc i) zero ij h = absurd (omega arith)
 in_turn S v (x ∷ xs) t (suc i) (suc j) ij h = in_turn S v xs t.1 i j (omega arith) (omega arith)
 
-turn_in : (S : List Point) (v : ℕ) (xs : List (ℕ × Bool)) → AreInTurn S v xs → Turns S v xs
+pub turn_in : (S : List Point) (v : ℕ) (xs : List (ℕ × Bool)) → AreInTurn S v xs → Turns S v xs
 turn_in S v [] t = tt
 turn_in S v (x ∷ xs) t = (
   λ y h. (let (k, l, at) = at_in xs y h in subst (λ (z : ℕ × Bool). IsBeforeInTurn S v x.0 z.0) at (t 0 (suc k) (omega arith) (omega arith))),

@@ -4,3 +4,5 @@ pub mod Shown
 pub mod Rows
 pub mod StarSteps
 pub mod TestStars
+pub mod Inside
+pub mod TrueEnds

@@ -6,3 +6,4 @@ pub mod Lesser
 pub mod BadPlans
 pub mod Steps
 pub mod Round
+pub mod TrueStars

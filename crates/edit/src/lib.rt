@@ -12,7 +12,7 @@ mod look;
 mod marks;
 mod plan;
 
-pub use fitting::fits;
+pub use fitting::{fits, fits_on_true_stars};
 pub use following::follow;
 pub use journal_defs::{Claim, Edit, EditList, Why};
 pub use look::Look;

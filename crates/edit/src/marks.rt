@@ -1,10 +1,10 @@
 // What the stars of a pair's ends show.
-ghost use Rattle.std.specs.Prelude.{◌≡◌, ◌<◌, ◌↔◌, length, IsTrue, IfSome, MatchOption, true, false};
+ghost use Rattle.std.specs.Prelude.{◌≡◌, ◌<◌, ◌≤◌, ◌↔◌, length, IsTrue, IfSome, MatchOption, true, false};
 ghost use Rattle.plane.specs.Geometry.{IsInner};
 ghost use Rattle.star.specs.Stars.{IsNeighbour, IsStar, HasMark, entry};
 ghost use Rattle.star.specs.Gaps.{IsKept, MeetsWithout, MissesWithout};
 ghost use Rattle.journal_defs.specs.Table.{IsAt, StaysMet, IsOpened, Shows};
-ghost use Rattle.edit.specs.Shown.{IsMarkOf, IsShownApex};
+ghost use Rattle.edit.specs.Shown.{IsMarkOf, IsShownApex, IsMetInside};
 
 use plane::{Pair, Points};
 use star::Star;
@@ -108,37 +108,121 @@ fn misses_without(points: &Points, star: &Star, q: u32) -> bool
     }
 }
 
-// Whether the centre is an inner point.
-fn is_inner(points: &Points, star: &Star) -> bool
+// The last kept neighbour at a position from `from` to `to`.
+fn last_kept(star: &Star, from: u32, to: u32) -> Option<u32>
+    requires { to ≤ length star.now.list }
+    ensures { IfSome result (λ r. r < length star.now.points) }
+{
+    for k in (from..to).rev() {
+        let (r, kept) = star.at(k);
+        if kept {
+            return Some(r);
+        }
+    }
+    None
+}
+
+// The kept neighbour before that at k.
+fn kept_before(star: &Star, k: u32) -> Option<u32>
+    requires { k ≤ length star.now.list }
+    ensures { IfSome result (λ r. r < length star.now.points) }
+{
+    let degree = star.degree();
+    match last_kept(star, 0, k) {
+        Some(r) => Some(r),
+        None => last_kept(star, k, degree),
+    }
+}
+
+// Whether the centre is strictly inside the triangle of the three, counterclockwise.
+fn is_strictly_inside(points: &Points, centre: u32, a: u32, b: u32, c: u32) -> bool
+    requires centre_in { centre < length points.now }
+    requires a_in { a < length points.now }
+    requires b_in { b < length points.now }
+    requires c_in { c < length points.now }
+    ensures { IsTrue result → IsInner points.now centre }
+{
+    let _count = points.len();
+    if !points.is_left(a, b, centre) {
+        return false;
+    }
+    if !points.is_left(b, c, centre) {
+        return false;
+    }
+    points.is_left(c, a, centre)
+}
+
+// Through as many neighbours a star is gone for a centre that they surround.
+const FEW: u32 = 16;
+
+// Whether q and the kept neighbours before and after it are seen to surround the centre. Among many neighbours these aren't
+// looked for.
+fn is_surrounded(points: &Points, star: &Star, q: u32) -> bool
+    requires { points.now ≡ star.now.points }
+    ensures { IsTrue result → IsInner points.now star.now.centre }
+{
+    let degree = star.degree();
+    if degree > FEW {
+        return false;
+    }
+    match star.place(points, q) {
+        None => false,
+        Some(k) => match (kept_before(star, k), star.kept_next(points, q)) {
+            (Some(a), Some(b)) => is_strictly_inside(points, star.centre(), a, q, b),
+            _ => false,
+        },
+    }
+}
+
+// Whether the centre is an inner point. Where q and the kept neighbours beside it surround the centre, it is one, and no
+// point has to be looked for.
+fn is_inner(points: &Points, star: &Star, q: u32) -> bool
     requires { points.now ≡ star.now.points }
     ensures { IsTrue result ↔ IsInner points.now star.now.centre }
 {
-    points.is_inner(star.centre())
+    is_surrounded(points, star, q) || points.is_inner(star.centre())
+}
+
+// Whether some need of the centre is missed where all needs of an inner centre are known to be met: then the centre is
+// none.
+fn is_outer(star: &Star, are_met: bool) -> bool
+    requires { are_met ≡ true → IsMetInside star.now }
+    ensures { IsTrue result → ¬ IsInner star.now.points star.now.centre }
+{
+    are_met && star.misses_some()
 }
 
 // Whether the centre is an inner point with a need that opens without its pair with q.
-fn opens_without(points: &Points, star: &Star, q: u32) -> bool
-    requires { points.now ≡ star.now.points }
+fn opens_without(points: &Points, star: &Star, q: u32, are_met: bool) -> bool
+    requires points { points.now ≡ star.now.points }
+    requires met { are_met ≡ true → IsMetInside star.now }
     ensures opened { IsTrue result → IsOpened points.now star.now star.now.centre q }
     ensures met { result ≡ false → StaysMet points.now star.now star.now.centre q }
 {
-    misses_without(points, star, q) && is_inner(points, star)
+    if is_outer(star, are_met) {
+        return false;
+    }
+    misses_without(points, star, q) && is_inner(points, star, q)
 }
 
-/// Whether a need of the pair's smaller end opens without the pair.
-pub fn opens_low(points: &Points, lower: &Star, e: Pair) -> bool
-    requires { IsAt points.now lower.now e.lo }
+/// Whether a need of the pair's smaller end opens without the pair. With `are_met`, all needs of it are met where it is an
+/// inner point.
+pub fn opens_low(points: &Points, lower: &Star, e: Pair, are_met: bool) -> bool
+    requires lower { IsAt points.now lower.now e.lo }
+    requires met { are_met ≡ true → IsMetInside lower.now }
     ensures opened { IsTrue result → IsOpened points.now lower.now e.lo e.hi }
     ensures met { result ≡ false → StaysMet points.now lower.now e.lo e.hi }
 {
-    opens_without(points, lower, e.hi())
+    opens_without(points, lower, e.hi(), are_met)
 }
 
-/// Whether a need of the pair's larger end opens without the pair.
-pub fn opens_high(points: &Points, upper: &Star, e: Pair) -> bool
-    requires { IsAt points.now upper.now e.hi }
+/// Whether a need of the pair's larger end opens without the pair. With `are_met`, all needs of it are met where it is an
+/// inner point.
+pub fn opens_high(points: &Points, upper: &Star, e: Pair, are_met: bool) -> bool
+    requires upper { IsAt points.now upper.now e.hi }
+    requires met { are_met ≡ true → IsMetInside upper.now }
     ensures opened { IsTrue result → IsOpened points.now upper.now e.hi e.lo }
     ensures met { result ≡ false → StaysMet points.now upper.now e.hi e.lo }
 {
-    opens_without(points, upper, e.lo())
+    opens_without(points, upper, e.lo(), are_met)
 }

@@ -1,3 +1,4 @@
+mod plain;
 mod plans;
 mod round;
 mod table;

@@ -121,7 +121,7 @@ fn is_within(points: &Points, edit: &Edit) -> bool
 }
 
 // What `fits` answers.
-pub fn told(points: &Points, round: &Round, edit: &Edit) -> Result<Result<(), Why>, Fail>
+pub(crate) fn told(points: &Points, round: &Round, edit: &Edit) -> Result<Result<(), Why>, Fail>
     requires { IsRoundFor points.now round.now }
 {
     if is_within(points, edit) {

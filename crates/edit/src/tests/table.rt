@@ -7,7 +7,11 @@ use std::alloc::Global;
 use std::process::Abort;
 use std::test::Fail;
 
-pub fn points_of(rt: &impl Abort, alloc: Global, list: &[(i64, i64)]) -> Result<Points, Fail> {
+pub(crate) fn points_of(
+    rt: &impl Abort,
+    alloc: Global,
+    list: &[(i64, i64)],
+) -> Result<Points, Fail> {
     let mut points = Vec::new(alloc);
     for (x, y) in list {
         points.push(Point { x: *x, y: *y })?;
@@ -16,7 +20,7 @@ pub fn points_of(rt: &impl Abort, alloc: Global, list: &[(i64, i64)]) -> Result<
     Ok(Points::make(points)?)
 }
 
-pub fn pairs_of(rt: &impl Abort, alloc: Global, list: &[(u32, u32)]) -> Result<Vec<Pair>, Fail> {
+fn pairs_of(rt: &impl Abort, alloc: Global, list: &[(u32, u32)]) -> Result<Vec<Pair>, Fail> {
     let mut pairs = Vec::new(alloc);
     for (i, j) in list {
         assert!(rt; *i != *j);

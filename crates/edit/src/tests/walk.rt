@@ -1,9 +1,10 @@
 // A walk through states by random edits; at each state every edit of every pair is compared with the plain slow program.
 ghost use Rattle.edit.specs.Round.{IsRoundFor};
 
+use super::plain::why_not;
 use super::round::{Round, round_of, told};
 use super::table::points_of;
-use crate::Edit;
+use crate::{Edit, Why};
 use journal_defs::{Lists, after, is_legal, is_within, opening};
 use partition_defs::crosses_none;
 use plane::{Pair, Points};
@@ -47,13 +48,14 @@ fn is_open(points: &Points, start: &[Pair], e: Pair) -> Result<bool, Fail> {
     Ok(points.is_clear(e) && crosses_none(points, start, e))
 }
 
-// Whether the edit is legal, by the plain program; `fits` says the same.
+// Whether the edit is legal, by the plain program; `fits` says the same, and each refusal of it is that of the plain
+// table.
 fn compared(
     rt: &impl Abort,
     alloc: Global,
     points: &Points,
     lists: &Lists,
-    fast: Result<(), crate::Why>,
+    fast: Result<(), Why>,
     edit: Edit,
 ) -> Result<bool, Fail> {
     if !is_within(points, lists) {
@@ -61,6 +63,11 @@ fn compared(
     }
     let plain = is_legal(alloc, points, lists, edit)?;
     assert_eq!(rt; fast.is_ok(), plain, "{edit:?}");
+    assert_eq!(rt;
+        fast.err(),
+        why_not(alloc, points, lists, edit)?,
+        "{edit:?}"
+    );
     Ok(plain)
 }
 

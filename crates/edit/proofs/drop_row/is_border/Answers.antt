@@ -1,18 +1,19 @@
-use Rattle.std.proofs.Common.{length}
+use Rattle.std.proofs.Common.{sym, ◌∙◌}
 use Rattle.std.proofs.lemmas.Bool.{false≢true}
-use Rattle.edit.proofs.Shown.{shown_some, some_within, apexes_inside}
+use Rattle.edit.proofs.TrueEnds.{border_of_missing, inside_of_both}
 use Rattle.edit.proofs.drop_row.is_border.Goals as goal
 
-pub returns-in-Some-Some : goal.returns-in-Some-Some
-returns-in-Some-Some c =
-    let k = c.in-Some-Some.field-0-0 in
-    let l = c.in-Some-Some.field-0-1 in (
-      λ t. absurd (false≢true t),
-      λ border. absurd (
-          apexes_inside c.args.points.now c.args.lower.now c.args.upper.now c.args.e k l
-          (shown_some c.args.points.now c.args.lower.now c.args.e.lo c.args.e.hi k c.near_apex-near.result c.near_apex-near.ensures.apex c.in-Some-Some.is-0)
-          (some_within c.near_apex-near.result k (length c.args.points.now) c.near_apex-near.ensures.within c.in-Some-Some.is-0)
-          (shown_some c.args.points.now c.args.upper.now c.args.e.hi c.args.e.lo l c.far_apex-far.result c.far_apex-far.ensures.apex c.in-Some-Some.is-1)
-          (some_within c.far_apex-far.result l (length c.args.points.now) c.far_apex-far.ensures.within c.in-Some-Some.is-1)
-          border),
-    )
+pub returns-then-are_true : goal.returns-then-are_true
+returns-then-are_true c = (
+  λ t. border_of_missing c.args.points.now c.args.lower.now c.args.upper.now c.args.e c.near_apex-near.result c.far_apex-far.result
+      (c.requires.known c.if-are_true.true) c.requires.there c.near_apex-near.ensures.apex c.far_apex-far.ensures.apex (c.is_missing.ensures.0 c.if-is_missing.true),
+  λ b. c.if-are_true.true,
+)
+
+pub returns-else-is_missing : goal.returns-else-is_missing
+returns-else-is_missing c = (
+  λ t. absurd (false≢true t),
+  λ b. absurd (inside_of_both c.args.points.now c.args.lower.now c.args.upper.now c.args.e c.near_apex-near.result c.far_apex-far.result
+      c.near_apex-near.ensures.apex c.near_apex-near.ensures.within c.far_apex-far.ensures.apex c.far_apex-far.ensures.within
+      (λ m. false≢true (sym c.if-is_missing.false ∙ c.is_missing.ensures.1 m)) b),
+)

@@ -6,11 +6,11 @@ use Rattle.edit.proofs.marks.opens_low.Goals as goal
 pub returns-clause-opened : goal.returns-clause-opened
 returns-clause-opened c = λ t.
     (let r = c.opens_without.ensures.opened t in (
-      subst (IsInner c.args.points.now) c.requires.1 r.0,
+      subst (IsInner c.args.points.now) c.requires.lower.1 r.0,
       subst (λ (q : ℕ). MissesWithout c.args.lower.now q) c.hi.ensures r.1,
     ))
 
 pub returns-clause-met : goal.returns-clause-met
 returns-clause-met c = λ f inner.
     subst (λ (q : ℕ). MeetsWithout c.args.lower.now q) c.hi.ensures
-    (c.opens_without.ensures.met f (subst (IsInner c.args.points.now) (sym c.requires.1) inner))
+    (c.opens_without.ensures.met f (subst (IsInner c.args.points.now) (sym c.requires.lower.1) inner))

@@ -113,7 +113,13 @@ fn try_to_enter(
 }
 
 // One turn: a place, and then the one with the last part.
-fn take_turn(claims: &Claims<Cell>, chronicle: &Chronicle<Visit>, holder: &mut Holder<Cell>, writer: &mut Writer, place: u32)
+fn take_turn(
+    claims: &Claims<Cell>,
+    chronicle: &Chronicle<Visit>,
+    holder: &mut Holder<Cell>,
+    writer: &mut Writer,
+    place: u32,
+)
     requires tables { IsReady claims.now chronicle.now }
     requires place { place < 3 }
     requires holder { IsHolding claims.now [] holder.old }
@@ -141,7 +147,13 @@ fn work(claims: &Claims<Cell>, chronicle: &Chronicle<Visit>, worker: &mut Worker
     for _turn in 0..TURNS {
         let place = worker.place % 3;
         worker.place = place + 1;
-        take_turn(claims, chronicle, &mut worker.holder, &mut worker.writer, place);
+        take_turn(
+            claims,
+            chronicle,
+            &mut worker.holder,
+            &mut worker.writer,
+            place,
+        );
     }
 }
 

@@ -1,0 +1,11 @@
+pub mod Steps
+pub mod Each
+pub mod LineCuts
+pub mod OtherLengths
+pub mod SolutionSteps
+pub mod CertificateSteps
+pub mod JournalSteps
+pub mod LaterSteps
+pub mod SummarySteps
+pub mod Written
+pub mod Exact

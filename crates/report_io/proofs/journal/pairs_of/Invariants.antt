@@ -1,0 +1,12 @@
+use Rattle.std.proofs.Common.{◌≡◌, map, take}
+use Rattle.std.specs.List.{filter_map}
+use Rattle.serde_json.specs.View.{view}
+use Rattle.json_text.proofs.Laws.{NoneBefore}
+use Rattle.instance_io.specs.Refusal.{ends}
+use Rattle.report_io.specs.Reading.{start_of}
+use Rattle.report_io.proofs.Each.{gives_none}
+use Rattle.report_io.proofs.journal.pairs_of.Given as goal
+
+abbrev pub invariant-loop-place : goal.invariant-loop-place
+invariant-loop-place l =
+    NoneBefore (gives_none (start_of l.n)) (map view l.items) l.place × (map ends l.pairs.items ≡ filter_map (start_of l.n) (take l.place (map view l.items)))

@@ -1,0 +1,11 @@
+use Rattle.std.proofs.Common.{◌≡◌, ◌++◌, map, nat_lt}
+use Rattle.serde_json.specs.Written.{items_text}
+use Rattle.report_io.specs.Report.{commit_item}
+use Rattle.report_io.specs.Texts.{commit_data}
+use Rattle.json_text.proofs.Laws.{items_from}
+use Rattle.report_io.specs.Answers.{list_text}
+use Rattle.report_io.proofs.journal_text.push_commits.Given as goal
+
+abbrev pub invariant-loop-place : goal.invariant-loop-place
+invariant-loop-place l =
+    l.text.items ++ items_text (nat_lt 0 l.place) (items_from l.place (map commit_data (map commit_item l.commits))) ≡ l.initial.text.items ++ list_text (map commit_data (map commit_item l.commits))

@@ -1,0 +1,10 @@
+use Rattle.std.proofs.Common.{◌≡◌, ◌++◌, map, nat_lt}
+use Rattle.serde_json.specs.Written.{items_text}
+use Rattle.text_defs.specs.Texts.{index_data}
+use Rattle.json_text.proofs.Laws.{items_from}
+use Rattle.report_io.specs.Answers.{list_text}
+use Rattle.report_io.proofs.summary_text.push_counts.Given as goal
+
+abbrev pub invariant-loop-place : goal.invariant-loop-place
+invariant-loop-place l =
+    l.text.items ++ items_text (nat_lt 0 l.place) (items_from l.place (map index_data l.counts)) ≡ l.initial.text.items ++ list_text (map index_data l.counts)

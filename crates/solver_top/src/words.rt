@@ -8,7 +8,6 @@ ghost use Rattle.solver_top.specs.WordFaults.{IsLineFaultAt};
 
 use generator::Kind;
 use itoa::Buffer;
-use plane::{FEWEST_POINTS, MOST_POINTS};
 
 /// A line of words that the program knows, with its numbers. (This project's own.)
 #[derive(Clone, Copy, Debug, PartialEq, Eq)]
@@ -153,7 +152,7 @@ fn after_kind(kind: Kind, rest: &[String]) -> Result<Command, usize>
 fn count_of(word: &str) -> Option<u32>
     ensures { MatchOption result (¬ IsCount word.now) (λ n. (3 ≤ n) × (n ≤ 5000) × (word.now ≡ decimal n)) }
 {
-    match number(word, FEWEST_POINTS as u64, MOST_POINTS as u64) {
+    match number(word, 3, 5000) {
         Some(n) => Some(n as u32),
         None => None,
     }

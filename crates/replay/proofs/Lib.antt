@@ -1,0 +1,9 @@
+mod Written
+mod Followed
+mod Changed
+mod Edited
+mod Roomy
+mod Answered
+mod Cores
+mod Committed
+mod Sweeping

@@ -17,6 +17,7 @@ use Rattle.border.proofs.Lower.{not_self}
 use Rattle.border.proofs.Turned.{turned_back, back_turned, same_place}
 use Rattle.border.proofs.Trails.{trail_order, trail_inside, trail_meets}
 use Rattle.plane_laws.proofs.Order.{before_asym}
+use Rattle.number_laws.proofs.Naturals.{equal_or_not}
 
 pub ends_true : (S : List Point) (m M : ℕ) → m < length S → M < length S → ((k : ℕ) → k < length S → k ≢ m → IsBefore (seen S true m) (seen S true k)) → ((k : ℕ) → k < length S → k ≢ M → IsBefore (seen S false M) (seen S false k)) → AreFirstAndLast S true m M
 ends_true S m M hm hM first last = record { from_in = hm; to_in = hM; first = first; last = λ k h ne. back_turned (point S M) (point S k) (last k h ne) }
@@ -34,11 +35,8 @@ found : (B : List ℕ) (v n : ℕ) → ((i : ℕ) × (i < n) × (at B i ≡ v)) 
 found B v zero = inr (λ i h e. omega arith)
 found B v (suc n) = elim (found B v n) [
   | inl (i, h, e) ↦ inl (i, omega arith, e)
-  | inr none ↦ elim (same_number (at B n) v) [ inl e ↦ inl (n, omega arith, e) | inr ne ↦ inr (λ i h e. elim (same_number i n) [ inl s ↦ ne (ap (at B) (sym s) ∙ e) | inr d ↦ none i (omega arith) e ]) ]
+  | inr none ↦ elim (equal_or_not (at B n) v) [ inl e ↦ inl (n, omega arith, e) | inr ne ↦ inr (λ i h e. elim (equal_or_not i n) [ inl s ↦ ne (ap (at B) (sym s) ∙ e) | inr d ↦ none i (omega arith) e ]) ]
 ]
-  where
-    same_number : (m n : ℕ) → (m ≡ n) ⊎ (m ≢ n)
-    same_number m n = elim (cases_lt m n) [ inl h ↦ inr (omega arith) | inr h ↦ elim (cases_lt n m) [ inl k ↦ inr (omega arith) | inr k ↦ inl (omega arith) ] ]
 
 -- what two walks give
 record Round (S : List Point) (m M : ℕ) (B : List ℕ) : Type 0 where

@@ -20,6 +20,7 @@ use Rattle.border.proofs.Turned.{step_of, lower_of, same_place}
 use Rattle.plane_laws.proofs.Order.{before_trans}
 use Rattle.plane.proofs.laws.Border.{left_step_once}
 use Rattle.plane_laws.proofs.Order.{before_asym}
+use Rattle.number_laws.proofs.Naturals.{equal_or_not}
 
 pub trail_begins : (S : List Point) (b : Bool) (v : ℕ) → IsTrail S b v (v ∷ [])
 trail_begins S b v = record { begins = refl; steps = λ j h. absurd (omega arith); rises = λ j h. absurd (omega arith) }
@@ -116,17 +117,14 @@ trail_can S b from to v C ends so hv ne = ((to, ends.to_in, ends.last v hv ne), 
 
 -- a walk between the ends meets each point from which a step leads on
 pub trail_meets : (S : List Point) (b : Bool) (from to a c : ℕ) (C : List ℕ) → AreAccepted S → AreFirstAndLast S b from to → IsTrail S b from (C ++ to ∷ []) → a < length S → IsBorderStep S Left a c → IsBefore (seen S b a) (seen S b c) → (i : ℕ) × (i < length C) × (at (C ++ to ∷ []) i ≡ a)
-trail_meets S b from to a c C accepted ends so ha step leads = look (length C) 0 (omega (arith, length_push C to)) (elim (same from a) [ inl e ↦ inl (so.begins ∙ e) | inr ne ↦ inr (subst (λ x. IsBefore (seen S b x) (seen S b a)) (sym so.begins) (ends.first a ha (λ e. ne (sym e)))) ])
+trail_meets S b from to a c C accepted ends so ha step leads = look (length C) 0 (omega (arith, length_push C to)) (elim (equal_or_not from a) [ inl e ↦ inl (so.begins ∙ e) | inr ne ↦ inr (subst (λ x. IsBefore (seen S b x) (seen S b a)) (sym so.begins) (ends.first a ha (λ e. ne (sym e)))) ])
   where
     D : List ℕ
     D = C ++ to ∷ []
 
-    same : (m n : ℕ) → (m ≡ n) ⊎ (m ≢ n)
-    same m n = elim (cases_lt m n) [ inl h ↦ inr (omega arith) | inr h ↦ elim (cases_lt n m) [ inl k ↦ inr (omega arith) | inr k ↦ inl (omega arith) ] ]
-
     -- nothing comes after the end
     not_after : (x : ℕ) → x < length S → ¬ IsBefore (seen S b to) (seen S b x)
-    not_after x h k = elim (same x to) [
+    not_after x h k = elim (equal_or_not x to) [
       | inl e ↦ not_self (seen S b to) (seen S b to) refl refl (subst (λ y. IsBefore (seen S b to) (seen S b y)) e k)
       | inr ne ↦ before_asym (seen S b to) (seen S b x) k (ends.last x h ne)
     ]

@@ -21,7 +21,8 @@ use Rattle.number_laws.proofs.Naturals.{another}
 use Rattle.plane_laws.proofs.Nearest.{HasNearest, nearest}
 use Rattle.price_defs.proofs.laws.Alone.{alone_of_none}
 use Rattle.dual_prices.specs.Rooms.{AreCheap}
-use Rattle.dual_prices.proofs.Rooms.{cheap_cost}
+use Rattle.dual_prices.proofs.laws.Rooms.{cheap_cost}
+use Rattle.dual_prices.proofs.laws.Inner.{inner_more, inner_less}
 use Rattle.dual_prices.specs.Floors.{IsLeastCostBelow, IsInnerListBelow, AreFloorRowsBelow, HasFloorRowsAt}
 
 zip_push : {A B : Type 0} (R : A → B → Type 0) (xs : List A) (ys : List B) (x : A) (y : B) → AllZip R xs ys → R x y → AllZip R (xs ++ x ∷ []) (ys ++ y ∷ [])
@@ -32,33 +33,6 @@ zip_push R (a ∷ xs) (b ∷ ys) x y h r = (h.0, zip_push R xs ys x y h.1 r)
 
 joined_push : {A : Type 0} (parts : List (List A)) (part : List A) → flat_map (λ (x : List A). x) (parts ++ part ∷ []) ≡ flat_map (λ (x : List A). x) parts ++ part
 joined_push parts part = flat_map-append (λ x. x) parts (part ∷ []) ∙ ap (λ x. flat_map (λ y. y) parts ++ x) (append-nil part)
-
-inner_more : (S : List Point) (k : ℕ) (ps : List ℕ) → IsInner S k → IsInnerListBelow S k ps → IsInnerListBelow S (k + 1) (ps ++ k ∷ [])
-inner_more S k ps inner list = record {
-  ascending = all_pairs_push (λ p q. p < q) ps k list.ascending (λ i d l. ((list.exact (get_or ps i d)).0 (Contains-get_or ps i d l)).0);
-  exact = λ p. (
-    λ c. elim (Contains-push_cases ps k p c) [
-      | inl m ↦ (let h : (p < k) × IsInner S p = (list.exact p).0 m in (let l : p < k = h.0 in omega arith, h.1))
-      | inr e ↦ (omega arith, subst (IsInner S) e inner)
-    ],
-    λ h. elim (cases_lt p k) [
-      | inl l ↦ Contains-append_left ps (k ∷ []) p ((list.exact p).1 (l, h.1))
-      | inr g ↦ (let e : k ≡ p = (let b : p < k + 1 = h.0 in omega arith) in subst (Contains (ps ++ k ∷ [])) e (Contains-push ps k))
-    ],
-  );
-}
-
-inner_less : (S : List Point) (k : ℕ) (ps : List ℕ) → ¬ IsInner S k → IsInnerListBelow S k ps → IsInnerListBelow S (k + 1) ps
-inner_less S k ps outer list = record {
-  ascending = list.ascending;
-  exact = λ p. (
-    λ c. (let h : (p < k) × IsInner S p = (list.exact p).0 c in (let l : p < k = h.0 in omega arith, h.1)),
-    λ h. elim (cases_lt p k) [
-      | inl l ↦ (list.exact p).1 (l, h.1)
-      | inr g ↦ (let e : p ≡ k = (let b : p < k + 1 = h.0 in omega arith) in absurd (outer (subst (IsInner S) e h.1)))
-    ],
-  );
-}
 
 -- the rows of one inner point more
 pub floor_more : (S : List Point) (D : List Costed) (k : ℕ) (old new : List Row) → IsInner S k → AreFloorRowsBelow S D k old → HasFloorRowsAt S D k old new → AreFloorRowsBelow S D (k + 1) new

@@ -1,4 +1,3 @@
-mod Rooms
-mod InPlace
+pub mod laws
 mod Floors
 mod Tables

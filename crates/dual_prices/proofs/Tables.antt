@@ -23,7 +23,7 @@ use Rattle.price_defs.specs.Raising.{reweigh}
 use Rattle.price_defs.proofs.laws.Tests.{has_ends_decides}
 use Rattle.price_defs.proofs.laws.Values.{gives_le, takes_le}
 use Rattle.price_defs.specs.Rows.{row_at}
-use Rattle.dual_prices.proofs.Rooms.{counts_same}
+use Rattle.dual_prices.proofs.laws.Rooms.{counts_same}
 use Rattle.dual_prices.specs.Tables.{tri, slot, entry, at, IsSmall, AreSmall, IsStep, IsShifted, change, IsPartlyAdded, IsRowAdded, IsTableOf, IsLoaded}
 use Rattle.price_defs.proofs.laws.Reweighed.{counts_reweigh, lessens_reweigh, weight_reweigh, right_reweigh}
 

@@ -164,7 +164,7 @@ scaled_value h q f rows hq hf hqf =
     subst (λ n. div_ceil (sum_by added rows - sum_by lost rows) q ≤ div_ceil n (q * f)) (sym d) (ceil_times (sum_by added rows - sum_by lost rows) q f hq hf hqf) in
     omega arith
 
-factor_some : (q : ℕ) (rows : List Row) → 0 < factor q rows
+pub factor_some : (q : ℕ) (rows : List Row) → 0 < factor q rows
 factor_some q rows = elim (nat_le q 10000 && not (list_any is_taker rows)) as (λ t. 0 < cond t 60 1) [ true ↦ omega arith | false ↦ omega arith ]
 
 some_inner : (inner : List ℕ) → inner ≢ [] → 0 < length inner

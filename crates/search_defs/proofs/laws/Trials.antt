@@ -29,7 +29,7 @@ use Rattle.price_defs.proofs.laws.Reweighed.{right_reweigh}
 use Rattle.raise_laws.proofs.laws.Tightened.{AreKept, kept_trans, kept_covered, raised_tight}
 
 -- A certificate with the same rows up to their weights and no greater load is valid too.
-valid_below : (S : List Point) (D : List Costed) (q : ℕ) (rows out : List Row) → IsValid S D q rows → length out ≤ MOST_ROWS → AreRight S out
+pub valid_below : (S : List Point) (D : List Costed) (q : ℕ) (rows out : List Row) → IsValid S D q rows → length out ≤ MOST_ROWS → AreRight S out
     → ((i j : ℕ) → load S out i j ≤ℤ load S rows i j) → IsValid S D q out
 valid_below S D q rows out valid count right below = record {
   divisor = valid.divisor;

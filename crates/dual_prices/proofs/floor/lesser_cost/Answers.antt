@@ -2,7 +2,7 @@ use Rattle.std.proofs.Common.{◌≡◌, ◌+◌, sym, ◌∙◌, subst, arith}
 use Rattle.std.proofs.lemmas.Bool.{false≢true}
 use Rattle.plane.proofs.laws.Border.{clear_of_pair}
 use Rattle.dual_prices.specs.Floors.{IsLeastCostBelow}
-use Rattle.dual_prices.proofs.Rooms.{not_below, below, cost_of_pair}
+use Rattle.dual_prices.proofs.laws.Rooms.{not_below, below, cost_of_pair}
 use Rattle.dual_prices.proofs.Floors.{cost_taken, cost_kept, cost_passed}
 use Rattle.cost_defs.specs.Costs.{cost}
 use Rattle.dual_prices.proofs.floor.lesser_cost.Goals as goal

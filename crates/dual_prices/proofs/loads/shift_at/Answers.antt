@@ -1,7 +1,7 @@
 use Rattle.std.proofs.Common.{◌≡◌, ℤ, length, to_z, of_z, w64, sym, ◌∙◌, subst, arith}
 use Rattle.std.proofs.lemmas.Int.{ints}
 use Rattle.dual_prices.specs.Tables.{IsShifted}
-use Rattle.dual_prices.proofs.Rooms.{not_counted, is_counted}
+use Rattle.dual_prices.proofs.laws.Rooms.{not_counted, is_counted}
 use Rattle.dual_prices.proofs.Tables.{part_more, part_less, slot_in}
 use Rattle.dual_prices.proofs.loads.shift_at.Goals as goal
 

@@ -1,6 +1,6 @@
 use Rattle.std.proofs.Common.{◌≡◌, ◌+◌, Some, length, sym, subst}
 use Rattle.dual_prices.specs.Rooms.{IsLeastRoom}
-use Rattle.dual_prices.proofs.Rooms.{no_room, zero_is}
+use Rattle.dual_prices.proofs.laws.Rooms.{no_room, zero_is}
 use Rattle.dual_prices.proofs.raising.least_room.Goals as goal
 
 pub returns-then-is_zero : goal.returns-then-is_zero

@@ -1,7 +1,7 @@
 use Rattle.std.proofs.Common.{◌+◌, sym, ◌∙◌, subst}
 use Rattle.std.proofs.lemmas.Bool.{false≢true}
 use Rattle.dual_prices.specs.Rooms.{IsLeastRoom}
-use Rattle.dual_prices.proofs.Rooms.{not_below, below, room_taken, room_kept, room_pass}
+use Rattle.dual_prices.proofs.laws.Rooms.{not_below, below, room_taken, room_kept, room_pass}
 use Rattle.dual_prices.proofs.raising.lesser_room.Goals as goal
 
 pub returns-in_default : goal.returns-in_default

@@ -6,7 +6,7 @@ use Rattle.price_defs.specs.declared.row.Row.{Row}
 use Rattle.price_defs.specs.declared.row.Row.TheVariants.{Three}
 use Rattle.price_defs.specs.Rows.{IsRight, row_at, stand, weight}
 use Rattle.price_defs.specs.Raising.{reweigh, IsRoom}
-use Rattle.dual_prices.proofs.InPlace.{at_stand, stand_in, room_of, raised_small, some_candidate, raised_by}
+use Rattle.dual_prices.proofs.laws.InPlace.{at_stand, stand_in, room_of, raised_small, some_candidate, raised_by}
 use Rattle.dual_prices.proofs.raising.raise_row.Goals as goal
 
 pub overflow_add-weight_of : goal.overflow_add-weight_of

@@ -1,6 +1,6 @@
 use Rattle.std.proofs.Common.{sym, ◌∙◌, subst}
 use Rattle.price_defs.specs.Limits.{AreLight}
-use Rattle.dual_prices.proofs.InPlace.{valid_light, raising_more, raised_length}
+use Rattle.dual_prices.proofs.laws.InPlace.{valid_light, raising_more, raised_length}
 use Rattle.dual_prices.proofs.raising.raised.Goals as goal
 
 pub make-requires-clause-light : goal.make-requires-clause-light

@@ -1,7 +1,7 @@
 use Rattle.std.proofs.Common.{◌≡◌, ◌*◌, ◌+◌, ◌∙◌, ap₂}
 use Rattle.cost_defs.specs.Costs.{cost}
 use Rattle.price_defs.specs.Loads.{takes}
-use Rattle.dual_prices.proofs.Rooms.{cost_of_pair, takes_of_pair, room_is, none_left}
+use Rattle.dual_prices.proofs.laws.Rooms.{cost_of_pair, takes_of_pair, room_is, none_left}
 use Rattle.dual_prices.proofs.raising.room.Goals as goal
 
 pub returns-then-given-allowed : goal.returns-then-given-allowed

@@ -28,7 +28,7 @@ use Rattle.raise_laws.proofs.laws.Floored.{cost_turned}
 use Rattle.price_defs.specs.Limits.{AreLight}
 use Rattle.dual_prices.specs.Rooms.{AreCheap}
 use Rattle.dual_prices.specs.Rooms.{IsRowAt, IsCandidate, IsLeastRoom, IsRaisedAt, IsRaising}
-use Rattle.dual_prices.proofs.Rooms.{load_turned, allowed_small, not_some}
+use Rattle.dual_prices.proofs.laws.Rooms.{load_turned, allowed_small, not_some}
 use Rattle.std.proofs.Math.Seq.{take-length, drop-length}
 use Rattle.std.proofs.lemmas.Option.{same_Some}
 
@@ -111,13 +111,13 @@ raised_light S D q rows (Cap e w) new c light takers small cheap h =
     (let l : w ≤ 1000000000000 = All-contains (λ x. weight x ≤ 1000000000000) rows (Cap e w) light c in omega (arith, ap weight h), ap lost h)
 
 -- the list before and behind its row k
-split : (rows : List Row) (k : ℕ) (row : Row) → row ≡ get_or rows k row → k < length rows → (drop k rows ≡ row ∷ drop (k + 1) rows) × (take k rows ++ row ∷ drop (k + 1) rows ≡ rows)
+pub split : (rows : List Row) (k : ℕ) (row : Row) → row ≡ get_or rows k row → k < length rows → (drop k rows ≡ row ∷ drop (k + 1) rows) × (take k rows ++ row ∷ drop (k + 1) rows ≡ rows)
 split rows k row is l =
     let d : drop k rows ≡ row ∷ drop (suc k) rows = drop-cons rows k row l ∙ ap (λ x. x ∷ drop (suc k) rows) (sym is) in
     let e : drop k rows ≡ row ∷ drop (k + 1) rows = d ∙ ap (λ n. row ∷ drop n rows) (sym (add-one k)) in
     (e, ap (λ x. take k rows ++ x) (sym e) ∙ take-append-drop k rows)
 
-replaced : (rows : List Row) (k : ℕ) (new : Row) → k < length rows → set rows k new ≡ take k rows ++ new ∷ drop (k + 1) rows
+pub replaced : (rows : List Row) (k : ℕ) (new : Row) → k < length rows → set rows k new ≡ take k rows ++ new ∷ drop (k + 1) rows
 replaced rows k new l =
     sym (take-append-drop (k + 1) (set rows k new))
     ∙ ap (λ x. x ++ drop (k + 1) (set rows k new)) (take_more_set rows k new l)

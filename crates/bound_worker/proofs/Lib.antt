@@ -1,0 +1,5 @@
+mod Ends
+mod Lists
+mod Runs
+mod Raised
+mod Rounds

@@ -91,7 +91,17 @@ pub fn price(
     let factor = factor_of(start.q, rows);
     let scaled = scaled_rows(alloc, rows, factor)?;
     let q = start.q * factor;
-    let rows = rounds_of(alloc, points, costs, q, inner.as_slice(), scaled, rounds, seed, stream)?;
+    let rows = rounds_of(
+        alloc,
+        points,
+        costs,
+        q,
+        inner.as_slice(),
+        scaled,
+        rounds,
+        seed,
+        stream,
+    )?;
     Ok(Certificate {
         q,
         rows: RowList::make(rows),

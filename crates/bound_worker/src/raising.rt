@@ -12,7 +12,7 @@ ghost use Rattle.bound_worker.specs.Ends.{IsLeastRoomAt, IsBelowRoom, IsZeroRoom
 use dual_prices::Costs;
 use plane::{Pair, Points};
 use point_rows::PointRows;
-use price_defs::{MOST_DIVISOR, is_counted, stand_of, weight_of, Row};
+use price_defs::{MOST_DIVISOR, Row, is_counted, stand_of, weight_of};
 
 // What the pair of a row's point and another end may still get.
 #[derive(Clone, Copy)]

@@ -19,14 +19,7 @@ use price_defs::{MOST_DIVISOR, Row, value_of};
 use std::alloc::Global;
 
 // Raises the row at a place, where there is one.
-fn lift_row(
-    points: &Points,
-    costs: &Costs,
-    q: u64,
-    kept: &mut PointRows,
-    p: u32,
-    r: u32,
-)
+fn lift_row(points: &Points, costs: &Costs, q: u64, kept: &mut PointRows, p: u32, r: u32)
     requires points { points.now ≡ kept.old.points }
     requires valid { IsValid points.now costs.now q kept.old.rows }
     requires small { q ≤ MOST_DIVISOR }

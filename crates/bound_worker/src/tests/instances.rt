@@ -26,11 +26,7 @@ pub fn points_of(rt: &impl Abort, alloc: Global, list: &[(i64, i64)]) -> Result<
 }
 
 // Costs by pairs.
-pub fn costs_of(
-    rt: &impl Abort,
-    alloc: Global,
-    items: &[(u32, u32, u32)],
-) -> Result<Costs, Fail> {
+pub fn costs_of(rt: &impl Abort, alloc: Global, items: &[(u32, u32, u32)]) -> Result<Costs, Fail> {
     let mut list = Vec::new(alloc);
     for (i, j, c) in items {
         assert!(rt; *i != *j);
@@ -86,11 +82,7 @@ pub fn drawn_costs(
 }
 
 // The raised floor certificate.
-pub fn raised_floor(
-    alloc: Global,
-    points: &Points,
-    costs: &Costs,
-) -> Result<Certificate, NoMemory>
+pub fn raised_floor(alloc: Global, points: &Points, costs: &Costs) -> Result<Certificate, NoMemory>
     ensures valid { IfOk result (λ c. IsValid points.now costs.now c.q c.rows) }
     ensures tight { IfOk result (λ c. IsTight points.now costs.now c.q c.rows) }
     ensures divisor { IfOk result (λ c. c.q ≤ MOST_DIVISOR) }

@@ -16,8 +16,7 @@ fn is_counted_plain(points: &Points, row: Row, i: u32, j: u32) -> bool {
     }
     match row {
         Row::Half { p, q, w: _ } => {
-            p != q
-                && ((i == p && points.in_need(p, q, j)) || (j == p && points.in_need(p, q, i)))
+            p != q && ((i == p && points.in_need(p, q, j)) || (j == p && points.in_need(p, q, i)))
         }
         Row::Three { p, w: _ } => i == p || j == p,
         Row::Cross { e: _, f: _, w: _ } => false,
@@ -206,7 +205,11 @@ pub fn price_plain(
         return Ok((start.q, scaled_plain(alloc, rows, 1)?, 0));
     }
     let has_takers = rows.iter().any(|row| stand_of(*row).is_none());
-    let factor = if start.q <= 10_000 && !has_takers { 60 } else { 1 };
+    let factor = if start.q <= 10_000 && !has_takers {
+        60
+    } else {
+        1
+    };
     let q = start.q.saturating_mul(factor);
     let mut present = scaled_plain(alloc, rows, factor)?;
     let mut words = Pcg32::new(seed, stream);

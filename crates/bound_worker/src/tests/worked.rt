@@ -21,7 +21,11 @@ fn gives(
             let start = raised_floor(alloc, &points, &costs)?;
             let found = price(alloc, &points, &costs, &start, rounds, seed, stream)?;
             assert_eq!(rt; found.q, wanted.0);
-            assert_eq!(rt; found.rows.as_slice(), wanted.1, "seed {seed}, stream {stream}");
+            assert_eq!(rt;
+                found.rows.as_slice(),
+                wanted.1,
+                "seed {seed}, stream {stream}"
+            );
         }
     }
     Ok(())
@@ -30,8 +34,14 @@ fn gives(
 #[test]
 fn a_square_with_its_centre(rt: HostRuntime) -> Result<(), Fail> {
     let square = [(0, 0), (0, 4), (4, 0), (4, 4), (2, 2)];
-    let raised = [Row::Half { p: 4, q: 0, w: 2 }, Row::Half { p: 4, q: 3, w: 2 }];
-    let scaled = [Row::Half { p: 4, q: 0, w: 120 }, Row::Half { p: 4, q: 3, w: 120 }];
+    let raised = [
+        Row::Half { p: 4, q: 0, w: 2 },
+        Row::Half { p: 4, q: 3, w: 2 },
+    ];
+    let scaled = [
+        Row::Half { p: 4, q: 0, w: 120 },
+        Row::Half { p: 4, q: 3, w: 120 },
+    ];
     gives(&rt, rt.alloc(), &square, 0, (2, &raised))?;
     gives(&rt, rt.alloc(), &square, 3, (120, &scaled))
 }
@@ -39,12 +49,30 @@ fn a_square_with_its_centre(rt: HostRuntime) -> Result<(), Fail> {
 #[test]
 fn a_triangle_with_a_point_inside(rt: HostRuntime) -> Result<(), Fail> {
     let triangle = [(0, 0), (6, 0), (0, 6), (2, 1)];
-    gives(&rt, rt.alloc(), &triangle, 0, (2, &[Row::Three { p: 3, w: 2 }]))?;
-    gives(&rt, rt.alloc(), &triangle, 3, (120, &[Row::Three { p: 3, w: 120 }]))
+    gives(
+        &rt,
+        rt.alloc(),
+        &triangle,
+        0,
+        (2, &[Row::Three { p: 3, w: 2 }]),
+    )?;
+    gives(
+        &rt,
+        rt.alloc(),
+        &triangle,
+        3,
+        (120, &[Row::Three { p: 3, w: 120 }]),
+    )
 }
 
 #[test]
 fn no_inner_point(rt: HostRuntime) -> Result<(), Fail> {
     gives(&rt, rt.alloc(), &[(0, 0), (1, 1), (2, 4)], 3, (2, &[]))?;
-    gives(&rt, rt.alloc(), &[(0, 0), (0, 4), (4, 0), (4, 4)], 1_000, (2, &[]))
+    gives(
+        &rt,
+        rt.alloc(),
+        &[(0, 0), (0, 4), (4, 0), (4, 4)],
+        1_000,
+        (2, &[]),
+    )
 }

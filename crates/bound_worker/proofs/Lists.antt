@@ -2,7 +2,7 @@
 use Rattle.std.proofs.Common.{◌≡◌, ℕ, ◌+◌, ◌*◌, ◌<◌, ◌≤◌, ◌⊎◌, inl, inr, List, [], ◌∷◌, ◌++◌, length, get_or, take, drop, set, Bool, true, false, cond, Option, Some, None, sym, ◌∙◌, ap, ap₂, refl, subst, arith}
 use Rattle.std.specs.Prelude.{not, ◌||◌, ◌&&◌, nat_lt, nat_le}
 use Rattle.std.specs.List.{list_any, sum_by, AllZip}
-use Rattle.std.proofs.lemmas.Bool.{true≢false, leb-true}
+use Rattle.std.proofs.lemmas.Bool.{true≢false, leb-true, and_parts}
 use Rattle.std.proofs.lemmas.List.{get_or_default}
 use Rattle.std.proofs.lemmas.List.Sums.{sum_by-cons, sum_by-append}
 use Rattle.std.proofs.lemmas.List.Folds.{list_any_at}
@@ -122,14 +122,6 @@ scaled_sum f [] = omega arith
 scaled_sum f (row ∷ rows) =
     omega (arith, sum_by-cons lost (reweigh row (weight row * f)) (scaled f rows), ap (λ n. n * f) (sum_by-cons lost row rows), up_lost f row, scaled_sum f rows)
 
-and_left : (a b : Bool) → (a && b) ≡ true → a ≡ true
-and_left true b h = refl
-and_left false b h = absurd (true≢false (sym h))
-
-and_right : (a b : Bool) → (a && b) ≡ true → b ≡ true
-and_right true b h = h
-and_right false b h = absurd (true≢false (sym h))
-
 not_true : (b : Bool) → not b ≡ true → b ≡ false
 not_true true h = absurd (true≢false (sym h))
 not_true false h = refl
@@ -137,7 +129,7 @@ not_true false h = refl
 factor_cases : (q : ℕ) (rows : List Row) → ((factor q rows ≡ 60) × (q ≤ 10000) × (list_any is_taker rows ≡ false)) ⊎ (factor q rows ≡ 1)
 factor_cases q rows =
     elim (nat_le q 10000 && not (list_any is_taker rows)) as (λ t. (nat_le q 10000 && not (list_any is_taker rows)) ≡ t → ((let n : ℕ = cond t 60 1 in n ≡ 60) × (q ≤ 10000) × (list_any is_taker rows ≡ false)) ⊎ (let n : ℕ = cond t 60 1 in n ≡ 1)) [
-      | true ↦ λ e. inl (refl, leb-true q 10000 (and_left (nat_le q 10000) (not (list_any is_taker rows)) e), not_true (list_any is_taker rows) (and_right (nat_le q 10000) (not (list_any is_taker rows)) e))
+      | true ↦ λ e. inl (refl, leb-true q 10000 (and_parts (nat_le q 10000) (not (list_any is_taker rows)) e).0, not_true (list_any is_taker rows) (and_parts (nat_le q 10000) (not (list_any is_taker rows)) e).1)
       | false ↦ λ e. inr refl
     ] refl
 

@@ -59,7 +59,7 @@ returns-clause-priced c = (
   c.in_ok-inner.inner.items,
   c.in_ok-inner.ensures,
   subst (IsPriced c.args.points.now c.args.costs.now c.in_ok-inner.inner.items (round_words c.args.stream c.args.seed 0 c.args.rounds) c.args.start.now.q c.args.start.now.rows (c.args.start.now.q * c.factor_of-factor.result)) (sym c.make-2.ensures)
-    (run_priced c.args.points.now c.args.costs.now c.in_ok-inner.inner.items c.args.stream c.args.seed c.args.rounds c.args.start.now.q c.args.start.now.rows (c.args.start.now.q * c.factor_of-factor.result) c.in_ok-scaled.scaled.items c.in_ok-rows.rows.items (run_of c)),
+      (run_priced c.args.points.now c.args.costs.now c.in_ok-inner.inner.items c.args.stream c.args.seed c.args.rounds c.args.start.now.q c.args.start.now.rows (c.args.start.now.q * c.factor_of-factor.result) c.in_ok-scaled.scaled.items c.in_ok-rows.rows.items (run_of c)),
 )
 
 pub returns-clause-valid : goal.returns-clause-valid
@@ -72,7 +72,7 @@ pub returns-clause-light : goal.returns-clause-light
 returns-clause-light c =
     subst AreLight (sym c.make-2.ensures)
     (run_light c.args.points.now c.args.costs.now c.in_ok-inner.inner.items c.args.stream c.args.seed c.args.rounds c.args.start.now.q c.args.start.now.rows (c.args.start.now.q * c.factor_of-factor.result) c.in_ok-scaled.scaled.items c.in_ok-rows.rows.items
-      c.len-count.ensures.accepted (run_of c) (record { valid = c.requires.valid; tight = c.requires.tight }) c.requires.divisor c.list-listed.ensures.costs.within)
+    c.len-count.ensures.accepted (run_of c) (record { valid = c.requires.valid; tight = c.requires.tight }) c.requires.divisor c.list-listed.ensures.costs.within)
 
 pub returns-clause-value : goal.returns-clause-value
 returns-clause-value c = λ h. subst (λ (x : List Row). value h c.args.start.now.q c.args.start.now.rows ≤ value h (c.args.start.now.q * c.factor_of-factor.result) x) (sym c.make-2.ensures) (good_of c h).1

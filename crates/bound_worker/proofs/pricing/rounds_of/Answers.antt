@@ -22,7 +22,7 @@ loop-k-preserved c =
     let keeps = round_keeps c.args.points.now c.args.costs.now c.args.q c.args.inner.now c.next_word-a.result c.next_word-b.result c.loop-k.rows.items c.in_ok-rows.rows.items c.len-count.ensures.accepted.count.0 c.requires.inner c.requires.some c.in_ok-rows.ensures c.loop-k.invariant.valid in
     record {
       leads = λ out h. c.loop-k.invariant.leads out (rounds_more c.args.points.now c.args.costs.now c.args.q c.args.inner.now c.args.stream c.args.seed c.loop-k.k c.args.rounds c.next_word-a.result c.next_word-b.result c.loop-k.rows.items c.in_ok-rows.rows.items out
-        (let l : c.loop-k.k < c.args.rounds = omega arith in l) drawn.0 drawn.1 c.in_ok-rows.ensures h);
+          (let l : c.loop-k.k < c.args.rounds = omega arith in l) drawn.0 drawn.1 c.in_ok-rows.ensures h);
       words = drawn.2;
       valid = keeps.0;
       takers = omega (arith, keeps.1, c.loop-k.invariant.takers);

@@ -38,8 +38,8 @@ returns-then-value_of c =
     (record { first = c.inner_of-p.ensures; second = c.other_of-r.ensures })
     (subst (λ (x : List Row). IsTrial c.args.points.now c.args.costs.now c.args.q c.inner_of-p.result c.other_of-r.result x c.in_ok-trial.trial.items) c.as_slice.ensures.value c.in_ok-trial.ensures.trial)
     (let a : c.value_of.result ≡ value 0 c.args.q c.args.rows.items = c.value_of.ensures ∙ ap (value 0 c.args.q) c.as_slice-2.ensures.value in
-      let b : c.value_of-2.result ≡ value 0 c.args.q c.in_ok-trial.trial.items = c.value_of-2.ensures ∙ ap (value 0 c.args.q) c.as_slice-3.ensures.value in
-      omega (arith, c.if-value_of.true, a, b))
+    let b : c.value_of-2.result ≡ value 0 c.args.q c.in_ok-trial.trial.items = c.value_of-2.ensures ∙ ap (value 0 c.args.q) c.as_slice-3.ensures.value in
+    omega (arith, c.if-value_of.true, a, b))
 
 pub returns-else-value_of : goal.returns-else-value_of
 returns-else-value_of c =
@@ -47,5 +47,5 @@ returns-else-value_of c =
     (record { first = c.inner_of-p.ensures; second = c.other_of-r.ensures })
     (subst (λ (x : List Row). IsTrial c.args.points.now c.args.costs.now c.args.q c.inner_of-p.result c.other_of-r.result x c.in_ok-trial.trial.items) c.as_slice.ensures.value c.in_ok-trial.ensures.trial)
     (let a : c.value_of.result ≡ value 0 c.args.q c.args.rows.items = c.value_of.ensures ∙ ap (value 0 c.args.q) c.as_slice-2.ensures.value in
-      let b : c.value_of-2.result ≡ value 0 c.args.q c.in_ok-trial.trial.items = c.value_of-2.ensures ∙ ap (value 0 c.args.q) c.as_slice-3.ensures.value in
-      omega (arith, c.if-value_of.false, a, b))
+    let b : c.value_of-2.result ≡ value 0 c.args.q c.in_ok-trial.trial.items = c.value_of-2.ensures ∙ ap (value 0 c.args.q) c.as_slice-3.ensures.value in
+    omega (arith, c.if-value_of.false, a, b))

@@ -1,5 +1,5 @@
 -- Lists of rows: where the first row Half(p,r) stands, and what Cross and Cap rows take off after each step.
-use Rattle.std.proofs.Common.{◌≡◌, ℕ, ◌+◌, ◌*◌, ◌<◌, ◌≤◌, ◌⊎◌, inl, inr, List, [], ◌∷◌, ◌++◌, length, get_or, take, drop, set, Bool, true, false, cond, Option, Some, None, sym, ◌∙◌, ap, ap₂, refl, subst, arith}
+use Rattle.std.proofs.Common.{◌≡◌, ℕ, ◌+◌, ◌*◌, ◌≤◌, ◌⊎◌, inl, inr, List, [], ◌∷◌, ◌++◌, length, take, drop, Bool, true, false, cond, Some, None, sym, ◌∙◌, ap, refl, subst, arith}
 use Rattle.std.specs.Prelude.{not, ◌||◌, ◌&&◌, nat_lt, nat_le}
 use Rattle.std.specs.List.{list_any, sum_by, AllZip}
 use Rattle.std.proofs.lemmas.Bool.{true≢false, leb-true, and_parts}
@@ -13,7 +13,7 @@ use Rattle.price_defs.specs.declared.row.Row.TheVariants.{Half, Three, Cross, Ca
 use Rattle.price_defs.specs.declared.row.TheConstants.{MOST_ROWS}
 use Rattle.price_defs.specs.Rows.{row_at, is_at, weight}
 use Rattle.price_defs.specs.Loads.{lost, value}
-use Rattle.price_defs.specs.Raising.{reweigh, IsRaisedRow, AreRaised}
+use Rattle.price_defs.specs.Raising.{reweigh, IsRaisedRow}
 use Rattle.raise_laws.specs.Laws.{Grows}
 use Rattle.raise_laws.proofs.laws.Raises.{raised_grows}
 use Rattle.search_defs.specs.Priced.{is_half, is_taker, lowered, opened, IsLifted, IsTrial, taken_of, factor, scaled}

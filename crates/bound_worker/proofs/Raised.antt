@@ -1,6 +1,6 @@
 -- One row that is raised by its least room.
-use Rattle.std.proofs.Common.{◌≡◌, ℕ, ◌+◌, ◌<◌, ◌≤◌, List, Some, None, length, get_or, set, sym, ◌∙◌, ap, ap₂, subst, refl, arith}
-use Rattle.std.specs.List.{All, Contains, sum_by}
+use Rattle.std.proofs.Common.{◌≡◌, ℕ, ◌+◌, ◌<◌, ◌≤◌, List, Some, None, length, get_or, set, sym, ◌∙◌, ap, ap₂}
+use Rattle.std.specs.List.{sum_by}
 use Rattle.std.proofs.lemmas.List.{get_or_default}
 use Rattle.std.proofs.lemmas.List.Elements.{All-contains}
 use Rattle.plane.specs.declared.coordinates.Point.{Point}
@@ -11,7 +11,7 @@ use Rattle.price_defs.specs.declared.row.Row.TheVariants.{Three}
 use Rattle.price_defs.specs.Rows.{IsRight, row_at, stand, weight}
 use Rattle.price_defs.specs.Loads.{IsValid, lost}
 use Rattle.price_defs.specs.Raising.{reweigh, IsRoom}
-use Rattle.dual_prices.specs.Rooms.{AreCheap, IsLeastRoom, IsRaisedAt}
+use Rattle.dual_prices.specs.Rooms.{AreCheap, IsRaisedAt}
 use Rattle.dual_prices.proofs.laws.InPlace.{at_stand, stand_in, room_of, raised_small, some_candidate, raised_by}
 use Rattle.bound_worker.specs.declared.raising.Room.{Room}
 use Rattle.bound_worker.specs.Ends.{IsLeastRoomAt}

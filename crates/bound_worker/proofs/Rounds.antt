@@ -1,5 +1,5 @@
 -- A round: its trial is valid, and what Cross and Cap rows take off stays.
-use Rattle.std.proofs.Common.{◌≡◌, ◌≢◌, ℕ, zero, suc, ◌+◌, ◌*◌, ◌-◌, ◌%◌, ◌<◌, ◌≤◌, inl, inr, List, [], ◌∷◌, length, Bool, true, false, cond, sym, ◌∙◌, ap, refl, subst, arith}
+use Rattle.std.proofs.Common.{◌≡◌, ◌≢◌, ℕ, zero, suc, ◌+◌, ◌*◌, ◌-◌, ◌%◌, ◌<◌, ◌≤◌, List, [], ◌∷◌, length, Bool, true, false, cond, sym, ◌∙◌, ap, refl, subst, arith}
 use Rattle.std.specs.Prelude.{nat_le, slice_index}
 use Rattle.std.specs.List.{sum_by}
 use Rattle.std.proofs.lemmas.Bool.{leb-true, le-leb, false≢true}
@@ -11,7 +11,7 @@ use Rattle.price_defs.specs.Rows.{IsRight}
 use Rattle.price_defs.specs.Loads.{IsValid, lost, value}
 use Rattle.price_defs.specs.Floor.{IsInnerList}
 use Rattle.raise_laws.proofs.laws.Raises.{raised_valid}
-use Rattle.search_defs.specs.Priced.{lowered, opened, IsLifted, IsTrial, taken_of, other_than, IsRound, AreRounds}
+use Rattle.search_defs.specs.Priced.{lowered, opened, IsTrial, taken_of, other_than, IsRound, AreRounds}
 use Rattle.search_defs.specs.Words.{stream_word, round_words}
 use Rattle.search_defs.proofs.laws.Trials.{lowered_valid, opened_valid, lifted_valid, round_right}
 use Rattle.search_defs.proofs.laws.Words.{words_left}

@@ -1,9 +1,8 @@
-use Rattle.std.proofs.Common.{◌≡◌, ◌≤◌, ◌<◌, ◌*◌, ℕ, List, length, sym, ◌∙◌, ap, ap₂, subst, arith}
-use Rattle.std.specs.List.{sum_by}
+use Rattle.std.proofs.Common.{◌≡◌, ◌≤◌, ◌*◌, ℕ, List, sym, ◌∙◌, ap, ap₂, subst, arith}
 use Rattle.std.proofs.lemmas.Grind.{common_steps}
 use Rattle.price_defs.specs.declared.row.Row.{Row}
 use Rattle.price_defs.specs.Limits.{AreLight}
-use Rattle.price_defs.specs.Loads.{IsValid, lost, value}
+use Rattle.price_defs.specs.Loads.{IsValid, value}
 use Rattle.price_defs.specs.Tight.{IsTight}
 use Rattle.raise_laws.specs.Laws.{IsGood}
 use Rattle.search_defs.specs.Priced.{factor, scaled, IsPriced, AreRounds}

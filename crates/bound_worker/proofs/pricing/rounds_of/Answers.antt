@@ -1,7 +1,4 @@
-use Rattle.std.proofs.Common.{◌≡◌, ◌≤◌, ◌<◌, ◌+◌, ◌-◌, ◌*◌, ℕ, List, sym, ◌∙◌, ap, subst, arith}
-use Rattle.std.specs.List.{sum_by}
-use Rattle.price_defs.specs.declared.row.Row.{Row}
-use Rattle.price_defs.specs.Loads.{IsValid, lost}
+use Rattle.std.proofs.Common.{◌≡◌, ◌≤◌, ◌<◌, ◌-◌, ℕ, ◌∙◌, subst, arith}
 use Rattle.search_defs.specs.Priced.{AreRounds}
 use Rattle.search_defs.specs.Words.{round_words}
 use Rattle.search_defs.proofs.laws.Words.{at_begin, two_words}

@@ -1,4 +1,4 @@
-use Rattle.std.proofs.Common.{◌≡◌, ℕ, ◌+◌, Option, sym, ◌∙◌, subst, arith}
+use Rattle.std.proofs.Common.{◌+◌, sym, ◌∙◌, subst}
 use Rattle.std.proofs.lemmas.Bool.{false≢true}
 use Rattle.bound_worker.specs.Ends.{IsLeastRoomAt}
 use Rattle.bound_worker.proofs.Ends.{not_below, room_taken, room_kept, room_pass}

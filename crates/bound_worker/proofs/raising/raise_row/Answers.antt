@@ -1,4 +1,4 @@
-use Rattle.std.proofs.Common.{◌≡◌, ◌≤◌, ◌+◌, ℕ, List, get_or, sym, ◌∙◌, ap, arith}
+use Rattle.std.proofs.Common.{◌≤◌, ◌+◌, List, get_or, sym, ◌∙◌, ap, arith}
 use Rattle.price_defs.specs.declared.row.Row.{Row}
 use Rattle.price_defs.specs.Rows.{weight}
 use Rattle.bound_worker.proofs.Raised.{IsStanding, small_there, none_there, raised_there}

@@ -1,4 +1,4 @@
-use Rattle.std.proofs.Common.{◌≡◌, ◌+◌, ℕ, List, length, sym, ◌∙◌, ap, subst, arith}
+use Rattle.std.proofs.Common.{◌∙◌}
 use Rattle.dual_prices.proofs.laws.InPlace.{raising_more, raised_length}
 use Rattle.bound_worker.proofs.raising.raise_rows.Goals as goal
 

@@ -1,4 +1,4 @@
-use Rattle.std.proofs.Common.{◌≡◌, ◌*◌, ◌+◌, ℕ, sym, ◌∙◌, ap, ap₂, arith}
+use Rattle.std.proofs.Common.{◌≡◌, ◌*◌, ◌+◌, ◌∙◌, ap₂}
 use Rattle.cost_defs.specs.Costs.{cost}
 use Rattle.price_defs.specs.Loads.{takes}
 use Rattle.dual_prices.proofs.laws.Rooms.{cost_of_pair, takes_of_pair, room_is, none_left}

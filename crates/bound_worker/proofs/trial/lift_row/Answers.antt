@@ -1,4 +1,4 @@
-use Rattle.std.proofs.Common.{◌≡◌, ℕ, List, Some, subst}
+use Rattle.std.proofs.Common.{List, Some, subst}
 use Rattle.price_defs.specs.declared.row.Row.{Row}
 use Rattle.bound_worker.specs.Places.{IsPlace}
 use Rattle.bound_worker.proofs.Lists.{lifted_at}

@@ -1,4 +1,4 @@
-use Rattle.std.proofs.Common.{◌≡◌, ◌≤◌, ◌<◌, ℕ, List, length, sym, ◌∙◌, ap, subst, arith}
+use Rattle.std.proofs.Common.{◌≡◌, ◌<◌, ℕ, List, length, sym, ◌∙◌, ap, subst, arith}
 use Rattle.price_defs.specs.declared.row.Row.{Row}
 use Rattle.price_defs.specs.declared.row.Row.TheVariants.{Half}
 use Rattle.price_defs.specs.Limits.{AreLight}
@@ -7,7 +7,7 @@ use Rattle.price_defs.specs.Rows.{IsRight}
 use Rattle.search_defs.proofs.laws.Trials.{round_right}
 use Rattle.search_defs.specs.Priced.{IsTrial}
 use Rattle.dual_prices.proofs.laws.InPlace.{valid_light}
-use Rattle.bound_worker.proofs.Rounds.{HasDrawn, drawn_right, trial_valid, round_taken, round_left}
+use Rattle.bound_worker.proofs.Rounds.{drawn_right, trial_valid, round_taken, round_left}
 use Rattle.bound_worker.proofs.trial.round.Goals as goal
 
 pub other_of-r-requires : goal.other_of-r-requires

@@ -1,6 +1,5 @@
-use Rattle.std.proofs.Common.{◌≡◌, ◌≤◌, ℕ, List, sym, ◌∙◌, ap, subst, arith}
+use Rattle.std.proofs.Common.{◌≡◌, ◌≤◌, sym, ◌∙◌, ap, subst, arith}
 use Rattle.std.specs.List.{sum_by}
-use Rattle.price_defs.specs.declared.row.Row.{Row}
 use Rattle.price_defs.specs.Limits.{AreLight}
 use Rattle.price_defs.specs.Loads.{IsValid, lost}
 use Rattle.price_defs.specs.Rows.{AreRight}

@@ -1,5 +1,6 @@
 mod Ends
 mod Lists
 mod Runs
+mod Settled
 mod Raised
 mod Rounds

@@ -90,7 +90,7 @@ grown_row_lost (Three p w) new h = ap lost h.2
 grown_row_lost (Cross e f w) new h = ap lost h
 grown_row_lost (Cap e w) new h = ap lost h
 
-grown_lost : (rows out : List Row) → AllZip Grows rows out → sum_by lost out ≡ sum_by lost rows
+pub grown_lost : (rows out : List Row) → AllZip Grows rows out → sum_by lost out ≡ sum_by lost rows
 grown_lost [] [] h = refl
 grown_lost [] (y ∷ ys) h = absurd h
 grown_lost (x ∷ xs) [] h = absurd h

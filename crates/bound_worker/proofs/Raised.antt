@@ -54,3 +54,9 @@ raised_there S D q rows new k p row room w at valid least is so =
       raised = raised_by S D q rows row p room.more at.stands (room_there S D q rows k p row room at valid least);
       changed = so ∙ ap₂ (λ (r : Row) (v : ℕ). set rows k (reweigh r v)) here (ap (λ (n : ℕ). n + room.more) is);
     }
+
+-- the list with the raised row
+pub raised_set : (S : List Point) (rows new : List Row) (k p : ℕ) (row : Row) (w more : ℕ) → IsStanding S rows k p row → w ≡ weight row → new ≡ set rows k (reweigh (row_at rows k) (w + more)) → new ≡ set rows k (reweigh row (weight row + more))
+raised_set S rows new k p row w more at is so =
+    let here : row_at rows k ≡ row = sym (at.is ∙ get_or_default rows k row (Three 0 0) at.place) in
+    so ∙ ap₂ (λ (r : Row) (v : ℕ). set rows k (reweigh r v)) here (ap (λ (n : ℕ). n + more) is)

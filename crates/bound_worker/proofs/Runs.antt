@@ -7,11 +7,12 @@ use Rattle.cost_defs.specs.Costs.{Costed}
 use Rattle.price_defs.specs.declared.row.Row.{Row}
 use Rattle.price_defs.specs.Limits.{AreLight}
 use Rattle.price_defs.specs.Loads.{IsValid, lost, value}
+use Rattle.price_defs.specs.Tight.{IsTight}
 use Rattle.price_defs.specs.Floor.{IsInnerList}
 use Rattle.raise_laws.specs.Laws.{IsGood}
 use Rattle.search_defs.specs.Priced.{IsPriced, AreRounds, factor, scaled}
 use Rattle.search_defs.specs.Words.{round_words}
-use Rattle.search_defs.proofs.laws.Scaled.{factor_some, scaled_valid, priced_good}
+use Rattle.search_defs.proofs.laws.Scaled.{factor_some, scaled_valid, scaled_tight, priced_good}
 use Rattle.dual_prices.specs.Rooms.{AreCheap}
 use Rattle.dual_prices.proofs.laws.InPlace.{valid_light}
 use Rattle.bound_worker.proofs.Lists.{scaled_lost, scaled_divisor}
@@ -26,6 +27,11 @@ pub begun_valid : (S : List Point) (D : List Costed) (q : ℕ) (rows : List Row)
 begun_valid S D q rows Q start begun valid =
     subst (λ n. IsValid S D n start) (sym begun.divisor)
     (subst (IsValid S D (q * factor q rows)) (sym begun.rows_are) (scaled_valid S D q (factor q rows) rows (factor_some q rows) valid))
+
+pub begun_tight : (S : List Point) (D : List Costed) (q : ℕ) (rows : List Row) (Q : ℕ) (start : List Row) → IsBegun q rows Q start → IsTight S D q rows → IsTight S D Q start
+begun_tight S D q rows Q start begun tight =
+    subst (λ n. IsTight S D n start) (sym begun.divisor)
+    (subst (IsTight S D (q * factor q rows)) (sym begun.rows_are) (scaled_tight S D q (factor q rows) rows tight))
 
 pub begun_lost : (q : ℕ) (rows : List Row) (Q : ℕ) (start : List Row) → IsBegun q rows Q start → sum_by lost start ≡ sum_by lost rows
 begun_lost q rows Q start begun = ap (sum_by lost) begun.rows_are ∙ scaled_lost q rows

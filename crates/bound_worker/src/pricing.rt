@@ -11,7 +11,7 @@ ghost use Rattle.search_defs.specs.Words.{round_words};
 
 use crate::drawing::inner_points;
 use crate::rows::{factor_of, scaled_rows};
-use crate::trial::round;
+use crate::trial::{present_of, round};
 use dual_prices::{Certificate, Costs, RowList};
 use mcp_outside::NoMemory;
 use plane::Points;
@@ -33,6 +33,7 @@ fn rounds_of(
     stream: u64,
 ) -> Result<Vec<Row>, NoMemory>
     requires valid { IsValid points.now costs.now q start.items }
+    requires tight { IsTight points.now costs.now q start.items }
     requires small { q ≤ MOST_DIVISOR }
     requires takers { sum_by lost start.items ≤ 100000000000 }
     requires inner { IsInnerList points.now inner.now }
@@ -42,13 +43,13 @@ fn rounds_of(
 {
     let _count = points.len();
     let mut words = Pcg32::new(seed, stream);
-    let mut rows = start;
+    let mut present = present_of(alloc, points, costs, q, start)?;
     for k in 0..rounds {
         let a = words.next_word();
         let b = words.next_word();
-        rows = round(alloc, points, costs, q, inner, rows, a, b)?;
+        present = round(alloc, points, costs, q, inner, present, a, b)?;
     }
-    Ok(rows)
+    Ok(present.rows)
 }
 
 /// What a bound worker makes of a certificate in so many rounds, with the words of `Pcg32::new(seed, stream)`; the

@@ -1,10 +1,10 @@
 // Lists of rows: lowered at a point, with a Half row more, and times a number.
-ghost use Rattle.std.specs.Prelude.{◌≡◌, ◌<◌, ◌≤◌, ◌*◌, cond, length, IfOk};
+ghost use Rattle.std.specs.Prelude.{◌≡◌, ◌<◌, ◌≤◌, ◌*◌, cond, length, IfOk, OnOk};
 ghost use Rattle.std.specs.List.{list_any};
 ghost use Rattle.price_defs.specs.Limits.{AreLight};
 ghost use Rattle.price_defs.specs.Rows.{weight, is_at};
 ghost use Rattle.price_defs.specs.Raising.{reweigh};
-ghost use Rattle.bound_worker.specs.Places.{IsPlace};
+ghost use Rattle.bound_worker.specs.Places.{IsPlace, IsOpened};
 ghost use Rattle.search_defs.specs.Priced.{is_half, is_taker, lowered, opened, factor, scaled};
 
 use mcp_outside::NoMemory;
@@ -65,12 +65,13 @@ pub fn place_of(rows: &[Row], p: u32, r: u32) -> Option<usize>
     None
 }
 
-// Puts Half(p,r) at the end, where it isn't there and has room.
-pub fn open_row(rows: &mut Vec<Row>, p: u32, r: u32) -> Result<(), NoMemory>
-    ensures { IfOk result (λ _. rows.new.items ≡ opened p r rows.old.items) }
+// Puts Half(p,r) at the end, where it isn't there and has room, and notes an end for it.
+pub fn open_row(rows: &mut Vec<Row>, ends: &mut Vec<u32>, p: u32, r: u32) -> Result<(), NoMemory>
+    ensures { OnOk result (IsOpened p r rows.old.items ends.old.items rows.new.items ends.new.items) }
 {
     if place_of(rows.as_slice(), p, r).is_none() && rows.len() < MOST_ROWS as usize {
         rows.push(Row::Half { p, q: r, w: 0 })?;
+        ends.push(0)?;
     }
     Ok(())
 }

@@ -89,5 +89,6 @@ pub fn raised_floor(alloc: Global, points: &Points, costs: &Costs) -> Result<Cer
     ensures takers { IfOk result (λ c. sum_by lost c.rows ≤ 100000000000) }
 {
     let floor = floor_certificate(alloc, points, costs)?;
-    raise_all(alloc, points, costs, floor)
+    let raised = raise_all(alloc, points, costs, floor)?;
+    Ok(raised)
 }

@@ -33,7 +33,7 @@ use Rattle.std.proofs.Math.Seq.{take-length, drop-length}
 use Rattle.std.proofs.lemmas.Option.{same_Some}
 
 -- a counted pair has the end p
-end_of : (S : List Point) (p : ℕ) (row : Row) (i j : ℕ) → IsRowAt p row → Counts S row i j → (i ≡ p) ⊎ (j ≡ p)
+pub end_of : (S : List Point) (p : ℕ) (row : Row) (i j : ℕ) → IsRowAt p row → Counts S row i j → (i ≡ p) ⊎ (j ≡ p)
 end_of S p (Half u q w) i j at_p (inl h) = inl (h.0 ∙ at_p)
 end_of S p (Half u q w) i j at_p (inr h) = inr (h.0 ∙ at_p)
 end_of S p (Three u w) i j at_p (inl h) = inl (h ∙ at_p)
@@ -48,7 +48,7 @@ at_point p (Cross e f w) h = absurd h
 at_point p (Cap e w) h = absurd h
 
 -- a counted clear pair of two ends is a candidate of p
-candidate_of : (S : List Point) (p : ℕ) (row : Row) (i j : ℕ) → i < j → j < length S → IsClear S i j → Counts S row i j → (i ≡ p) ⊎ (j ≡ p)
+pub candidate_of : (S : List Point) (p : ℕ) (row : Row) (i j : ℕ) → i < j → j < length S → IsClear S i j → Counts S row i j → (i ≡ p) ⊎ (j ≡ p)
     → ((j < length S) × (i ≡ p) × IsCandidate S row p j) ⊎ ((i < length S) × (j ≡ p) × IsCandidate S row p i)
 candidate_of S p row i j l n clear counted (inl e) =
     inl (n, e, ((λ g. absurd (omega arith)), subst (λ x. IsClear S x j) e clear, subst (λ x. Counts S row x j) e counted))

@@ -111,7 +111,7 @@ own_weight (Cap e w) = refl
 same_kept : (rows : List Row) → AreKept rows rows
 same_kept rows row c = (weight row, subst (Contains rows) (sym (own_weight row)) c)
 
-append_kept : (rows more : List Row) → AreKept rows (rows ++ more)
+pub append_kept : (rows more : List Row) → AreKept rows (rows ++ more)
 append_kept rows more row c = (weight row, subst (Contains (rows ++ more)) (sym (own_weight row)) (Contains-append_left rows more row c))
 
 nothing : (S : List Point) (p r i j : ℕ) → given S i j (Half p r 0) ≤ 0

@@ -8,7 +8,7 @@ use Rattle.raise_laws.specs.Laws.{IsGood}
 use Rattle.search_defs.specs.Priced.{factor, scaled, IsPriced, AreRounds}
 use Rattle.search_defs.specs.Words.{round_words}
 use Rattle.dual_prices.proofs.laws.InPlace.{valid_light}
-use Rattle.bound_worker.proofs.Runs.{IsBegun, begun_valid, begun_lost, IsRun, run_priced, run_good, run_light}
+use Rattle.bound_worker.proofs.Runs.{IsBegun, begun_valid, begun_tight, begun_lost, IsRun, run_priced, run_good, run_light}
 use Rattle.bound_worker.proofs.pricing.price.Goals as goal
 
 begun_of : (c : goal.After-as_slice) → IsBegun c.args.start.now.q c.args.start.now.rows (c.args.start.now.q * c.factor_of-factor.result) c.in_ok-scaled.scaled.items
@@ -49,6 +49,9 @@ scaled_rows-requires-clause-light c =
 
 pub rounds_of-requires-clause-valid : goal.rounds_of-requires-clause-valid
 rounds_of-requires-clause-valid c = begun_valid c.args.points.now c.args.costs.now c.args.start.now.q c.args.start.now.rows (c.args.start.now.q * c.factor_of-factor.result) c.in_ok-scaled.scaled.items (begun_of c) c.requires.valid
+
+pub rounds_of-requires-clause-tight : goal.rounds_of-requires-clause-tight
+rounds_of-requires-clause-tight c = begun_tight c.args.points.now c.args.costs.now c.args.start.now.q c.args.start.now.rows (c.args.start.now.q * c.factor_of-factor.result) c.in_ok-scaled.scaled.items (begun_of c) c.requires.tight
 
 pub rounds_of-requires-clause-takers : goal.rounds_of-requires-clause-takers
 rounds_of-requires-clause-takers c = omega (arith, begun_lost c.args.start.now.q c.args.start.now.rows (c.args.start.now.q * c.factor_of-factor.result) c.in_ok-scaled.scaled.items (begun_of c), c.requires.takers)

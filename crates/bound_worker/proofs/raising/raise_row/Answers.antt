@@ -1,7 +1,10 @@
-use Rattle.std.proofs.Common.{◌≤◌, ◌+◌, List, get_or, sym, ◌∙◌, ap, arith}
+use Rattle.std.proofs.Common.{◌≡◌, ◌≤◌, ◌<◌, ◌+◌, List, length, get_or, sym, ◌∙◌, ap, refl, arith}
+use Rattle.std.proofs.lemmas.List.{get_or_default}
 use Rattle.price_defs.specs.declared.row.Row.{Row}
-use Rattle.price_defs.specs.Rows.{weight}
-use Rattle.bound_worker.proofs.Raised.{IsStanding, small_there, none_there, raised_there}
+use Rattle.price_defs.specs.declared.row.Row.TheVariants.{Three}
+use Rattle.price_defs.specs.Rows.{weight, row_at, stand}
+use Rattle.bound_worker.proofs.Raised.{IsStanding, small_there, none_there, raised_there, raised_set}
+use Rattle.bound_worker.proofs.Settled.{noted_none, noted_after}
 use Rattle.bound_worker.proofs.raising.raise_row.Goals as goal
 
 pub overflow_add-weight_of : goal.overflow_add-weight_of
@@ -27,3 +30,16 @@ pub returns-clause-rows : goal.returns-clause-rows
 returns-clause-rows c =
     let at : IsStanding c.args.points.now c.args.kept.now.rows c.args.k c.in-Some.p c.index-rows-k.result = record { place = c.requires.place; is = c.index-rows-k.is ∙ ap (λ (x : List Row). get_or x c.args.k c.index-rows-k.result) c.rows.ensures.rows; stands = sym c.in-Some.ensures } in
     raised_there c.args.points.now c.args.costs.now c.args.q c.args.kept.now.rows _ c.args.k c.in-Some.p c.index-rows-k.result c.in-Some-least_room.room c.weight_of.result at c.requires.valid c.in-Some-least_room.ensures c.weight_of.ensures c.set_weight.ensures.rows
+
+pub returns-in_default-clause-ends : goal.returns-in_default-clause-ends
+returns-in_default-clause-ends c =
+    let is : c.index-rows-k.result ≡ get_or c.args.kept.now.rows c.args.k c.index-rows-k.result = c.index-rows-k.is ∙ ap (λ (x : List Row). get_or x c.args.k c.index-rows-k.result) c.rows.ensures.rows in
+    let here : row_at c.args.kept.now.rows c.args.k ≡ c.index-rows-k.result = sym (is ∙ get_or_default c.args.kept.now.rows c.args.k c.index-rows-k.result (Three 0 0) c.requires.place) in
+    noted_none c.args.points.now c.args.costs.now c.args.q c.args.k c.args.kept.now.rows c.args.ends.now.items (ap stand here ∙ sym c.in_default.ensures)
+
+pub returns-clause-ends : goal.returns-clause-ends
+returns-clause-ends c =
+    let at : IsStanding c.args.points.now c.args.kept.now.rows c.args.k c.in-Some.p c.index-rows-k.result = record { place = c.requires.place; is = c.index-rows-k.is ∙ ap (λ (x : List Row). get_or x c.args.k c.index-rows-k.result) c.rows.ensures.rows; stands = sym c.in-Some.ensures } in
+    noted_after c.args.points.now c.args.costs.now c.args.q c.args.k c.in-Some.p c.args.kept.now.rows c.set_weight.new.self.rows c.args.ends.now.items _ c.index-rows-k.result c.in-Some-least_room.room c.requires.place at.is at.stands
+    (let l : c.args.k < length c.args.ends.now.items = omega (arith, c.requires.place, c.requires.count) in l) c.in-Some-least_room.ensures
+    (raised_set c.args.points.now c.args.kept.now.rows c.set_weight.new.self.rows c.args.k c.in-Some.p c.index-rows-k.result c.weight_of.result c.in-Some-least_room.room.more at c.weight_of.ensures c.set_weight.ensures.rows) refl

@@ -5,7 +5,7 @@ use Rattle.price_defs.specs.Tight.{IsTight}
 use Rattle.bound_worker.proofs.tests.compared.compared.Given as goal
 
 abbrev pub invariant-loop-stream : goal.invariant-loop-stream
-invariant-loop-stream l = record {
+invariant-loop-stream g l = record {
   valid : IsValid l.points l.costs l.present.q l.present.rows;
   tight : IsTight l.points l.costs l.present.q l.present.rows;
   divisor : l.present.q ≤ 1000000;

@@ -2,7 +2,7 @@ use Rattle.std.proofs.Common.{◌≤◌}
 use Rattle.std.specs.List.{sum_by}
 use Rattle.price_defs.specs.Loads.{IsValid, lost}
 use Rattle.price_defs.specs.Tight.{IsTight}
-use Rattle.bound_worker.proofs.tests.compared.compared.Given as goal
+use Rattle.bound_worker.proofs.tests.compared.compared_on.Given as goal
 
 abbrev pub invariant-loop-stream : goal.invariant-loop-stream
 invariant-loop-stream g l = record {

@@ -1,0 +1,3 @@
+mod Bordered
+mod Raised
+mod Candidates

@@ -7,3 +7,6 @@ mod crossing;
 mod segments;
 
 pub use crossing::crossing_pairs;
+
+#[cfg(test)]
+mod tests;

@@ -222,7 +222,7 @@ fn in_directions_of_one_key(rt: HostRuntime) -> Result<(), Fail> {
                 y: (k - 3) * step,
             })?;
             list.push(Point {
-                x: (k - 2) * step,
+                x: (k - 2).saturating_mul(step),
                 y: far,
             })?;
         }

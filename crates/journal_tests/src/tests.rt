@@ -1,0 +1,3 @@
+mod applied;
+mod making;
+mod random;

@@ -1,6 +1,6 @@
 -- Two walks, there and back, make the cycle of the border.
-use Rattle.std.proofs.Common.{◌≡◌, ◌≢◌, ℕ, zero, suc, ◌+◌, ◌-◌, ◌<◌, ◌≤◌, true, false, List, [], ◌∷◌, ◌++◌, length, length-append, ◌⊎◌, inl, inr, arith, sym, ◌∙◌, ap, subst, refl}
-use Rattle.std.specs.List.{AllPairs}
+use Rattle.std.proofs.Common.{◌≡◌, ◌≢◌, ℕ, zero, suc, ◌+◌, ◌-◌, ◌<◌, ◌≤◌, true, false, List, [], ◌∷◌, ◌++◌, length, length-append, ◌⊎◌, inl, inr, arith, sym, ◌∙◌, ap, subst, subst₂, refl}
+use Rattle.std.specs.List.{AllPairs, ReversedBelow}
 use Rattle.std.proofs.lemmas.Bool.{cases_lt}
 use Rattle.std.proofs.lemmas.List.{get_or_default, get_or_append_left, get_or-append-add, get_or_push, length_push}
 use Rattle.plane.specs.declared.coordinates.Point.{Point}
@@ -13,17 +13,13 @@ use Rattle.plane_laws.specs.Order.{IsBefore}
 use Rattle.plane_laws.proofs.Between.{by_order}
 use Rattle.border.specs.Cycle.{at, after, IsBorderCycle}
 use Rattle.border.specs.Walk.{seen, AreFirstAndLast, IsTrail, HasWalked}
+use Rattle.border.specs.Chain.{IsInOrder}
 use Rattle.border.proofs.Lower.{not_self}
 use Rattle.border.proofs.Turned.{turned_back, back_turned, same_place}
+use Rattle.border.proofs.Ordered.{ends_of, order_turned}
 use Rattle.border.proofs.Trails.{trail_order, trail_inside, trail_meets}
 use Rattle.plane_laws.proofs.Order.{before_asym}
 use Rattle.number_laws.proofs.Naturals.{equal_or_not}
-
-pub ends_true : (S : List Point) (m M : ℕ) → m < length S → M < length S → ((k : ℕ) → k < length S → k ≢ m → IsBefore (seen S true m) (seen S true k)) → ((k : ℕ) → k < length S → k ≢ M → IsBefore (seen S false M) (seen S false k)) → AreFirstAndLast S true m M
-ends_true S m M hm hM first last = record { from_in = hm; to_in = hM; first = first; last = λ k h ne. back_turned (point S M) (point S k) (last k h ne) }
-
-pub ends_false : (S : List Point) (m M : ℕ) → m < length S → M < length S → ((k : ℕ) → k < length S → k ≢ m → IsBefore (seen S true m) (seen S true k)) → ((k : ℕ) → k < length S → k ≢ M → IsBefore (seen S false M) (seen S false k)) → AreFirstAndLast S false M m
-ends_false S m M hm hM first last = record { from_in = hM; to_in = hm; first = last; last = λ k h ne. turned_back (point S k) (point S m) (first k h ne) }
 
 after_more : (n i : ℕ) → i + 1 < n → after n i ≡ i + 1
 after_more n i h = grind arith
@@ -148,7 +144,21 @@ cycle_from S m M B ends round = record {
     next : (i v w : ℕ) → i < length B → at B i ≡ v → IsBorderStep S Left v w → at B (after (length B) i) ≡ w
     next i v w h e step = left_step_once S v (at B (after (length B) i)) w round.accepted (subst (λ x. x < length S) e (round.inside i h)) (subst (λ x. IsBorderStep S Left x (at B (after (length B) i))) e (round.steps i h)) step
 
-pub cycle_of : (S : List Point) (m M : ℕ) (A B : List ℕ) → AreAccepted S → AreFirstAndLast S true m M → AreFirstAndLast S false M m → HasWalked S true m M [] A → HasWalked S false M m A B → IsBorderCycle S B
+cycle_of : (S : List Point) (m M : ℕ) (A B : List ℕ) → AreAccepted S → AreFirstAndLast S true m M → AreFirstAndLast S false M m → HasWalked S true m M [] A → HasWalked S false M m A B → IsBorderCycle S B
 cycle_of S m M A B accepted there back (C, some_c, a, up) (D, some_d, b, down) =
     let is : B ≡ C ++ D = b ∙ ap (λ xs. xs ++ D) a in
     subst (IsBorderCycle S) (sym is) (cycle_from S m M (C ++ D) there (round_of S m M C D accepted there back some_c some_d up down))
+
+-- the two halves, the second over the points the other way round
+pub cycle_of_halves : (S : List Point) (O R A B : List ℕ) → AreAccepted S → IsInOrder S true O → length R ≡ length O → ReversedBelow O R (length O) → HasWalked S true (at O 0) (at O (length O - 1)) [] A
+    → HasWalked S false (at R 0) (at R (length R - 1)) A B → IsBorderCycle S B
+cycle_of_halves S O R A B accepted order len back up down =
+    let some : 0 < length O = omega (arith, order.count, accepted.count.0) in
+    let m = at O 0 in let M = at O (length O - 1) in
+    let e : at R 0 ≡ M = back 0 0 some ∙ ap (at O) (let t : length O - 1 - 0 ≡ length O - 1 = omega arith in t) in
+    let k : length R - 1 < length O = omega arith in
+    let z : length O - 1 - (length R - 1) ≡ 0 = omega arith in
+    let f : at R (length R - 1) ≡ m = back (length R - 1) 0 k ∙ ap (at O) z in
+    cycle_of S m M A B accepted (ends_of S true O order some)
+    (subst₂ (AreFirstAndLast S false) e f (ends_of S false R (order_turned S O R order len back) (omega arith)))
+    up (subst₂ (λ x y. HasWalked S false x y A B) e f down)

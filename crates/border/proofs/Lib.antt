@@ -1,5 +1,8 @@
 pub mod Lower
 pub mod Turned
 pub mod Trails
-pub mod Walking
+pub mod Ordered
+pub mod Growing
+pub mod Halves
 pub mod Cycles
+pub mod Marks

@@ -14,7 +14,8 @@ use Rattle.plane.specs.Accepted.{AreAccepted}
 use Rattle.plane_laws.specs.Order.{IsBefore}
 use Rattle.plane_laws.proofs.Between.{between_is_amid, amid_is_between}
 use Rattle.border.specs.Walk.{turned, seen}
-use Rattle.border.proofs.Lower.{IsLower, not_self}
+use Rattle.border.specs.Chain.{IsLower}
+use Rattle.border.proofs.Lower.{not_self}
 use Rattle.number_laws.proofs.Naturals.{equal_or_not}
 
 difference : (a b : ℤ) → neg_ℤ b -ℤ neg_ℤ a ≡ neg_ℤ (b -ℤ a)

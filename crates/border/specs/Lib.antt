@@ -1,2 +1,5 @@
 pub mod Cycle
 pub mod Walk
+pub mod Chain
+pub mod Inner
+pub mod Marks

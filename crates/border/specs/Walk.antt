@@ -1,6 +1,6 @@
 -- For private clauses.
 -- A walk along one half of the border: the points are as they are, or turned by half a turn.
-use Rattle.std.specs.Prelude.{◌≡◌, ◌≢◌, ℕ, ◌+◌, ◌<◌, Bool, true, false, ◌⊎◌, List, length, neg_ℤ, [], ◌∷◌, ◌++◌}
+use Rattle.std.specs.Prelude.{◌≡◌, ◌≢◌, ℕ, ◌+◌, ◌<◌, Bool, true, false, List, length, neg_ℤ, [], ◌∷◌, ◌++◌}
 use Rattle.plane.specs.declared.coordinates.Point.{Point}
 use Rattle.plane.specs.declared.coordinates.Turn.TheVariants.{Left}
 use Rattle.plane.specs.Geometry.{point}
@@ -28,17 +28,6 @@ pub record IsTrail (S : List Point) (b : Bool) (from : ℕ) (D : List ℕ) : Typ
   pub steps : (j : ℕ) → j + 1 < length D → IsBorderStep S Left (at D j) (at D (j + 1))
   pub rises : (j : ℕ) → j + 1 < length D → IsBefore (seen S b (at D j)) (seen S b (at D (j + 1)))
 
--- some point comes after v, and v is the first of all or a step that leads on comes to it
-abbrev pub CanGoOn : List Point → Bool → ℕ → Type 0
-CanGoOn S b v =
-    ((m : ℕ) × (m < length S) × IsBefore (seen S b v) (seen S b m))
-    × (((p : ℕ) → p < length S → ¬ IsBefore (seen S b p) (seen S b v)) ⊎ ((u : ℕ) × IsBorderStep S Left u v × IsBefore (seen S b u) (seen S b v)))
-
 -- the list has grown by the border points from the one end up to the other, which isn't in it
 abbrev pub HasWalked : List Point → Bool → (from to : ℕ) → (old new : List ℕ) → Type 0
 HasWalked S b from to old new = (C : List ℕ) × (0 < length C) × (new ≡ old ++ C) × IsTrail S b from (C ++ to ∷ [])
-
--- a walk that stands at v after k points and hasn't come to its end
-abbrev pub IsWalking : List Point → Bool → (from to : ℕ) → (old items : List ℕ) → (v k : ℕ) → Type 0
-IsWalking S b from to old items v k =
-    (C : List ℕ) × (items ≡ old ++ C) × (length C ≡ k) × IsTrail S b from (C ++ v ∷ []) × (v < length S) × (v ≢ to)

@@ -1,6 +1,4 @@
-mod Ends
 mod Lists
 mod Runs
 mod Settled
-mod Raised
 mod Rounds

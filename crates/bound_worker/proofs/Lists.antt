@@ -2,7 +2,7 @@
 use Rattle.std.proofs.Common.{◌≡◌, ℕ, ◌+◌, ◌*◌, ◌≤◌, ◌⊎◌, inl, inr, List, [], ◌∷◌, ◌++◌, length, take, drop, Bool, true, false, cond, Some, None, sym, ◌∙◌, ap, refl, subst, arith}
 use Rattle.std.specs.Prelude.{not, ◌||◌, ◌&&◌, nat_lt, nat_le}
 use Rattle.std.specs.List.{list_any, sum_by, AllZip}
-use Rattle.std.proofs.lemmas.Bool.{true≢false, leb-true, and_parts}
+use Rattle.std.proofs.lemmas.Bool.{true≢false, leb-true, and_parts, not-true}
 use Rattle.std.proofs.lemmas.List.{get_or_default}
 use Rattle.std.proofs.lemmas.List.Sums.{sum_by-cons, sum_by-append}
 use Rattle.std.proofs.lemmas.List.Folds.{list_any_at}
@@ -15,9 +15,9 @@ use Rattle.price_defs.specs.Rows.{row_at, is_at, weight}
 use Rattle.price_defs.specs.Loads.{lost, value}
 use Rattle.price_defs.specs.Raising.{reweigh, IsRaisedRow}
 use Rattle.raise_laws.specs.Laws.{Grows}
-use Rattle.raise_laws.proofs.laws.Raises.{raised_grows}
+use Rattle.raise_laws.proofs.laws.Raises.{raised_grows, grown_lost}
 use Rattle.search_defs.specs.Priced.{is_half, is_taker, lowered, opened, IsLifted, IsTrial, taken_of, factor, scaled}
-use Rattle.dual_prices.specs.Rooms.{IsRaisedAt}
+use Rattle.dual_prices.specs.Raised.{IsRaisedAt}
 use Rattle.dual_prices.proofs.laws.InPlace.{split, replaced}
 use Rattle.bound_worker.specs.Places.{IsPlace}
 
@@ -84,18 +84,6 @@ lifted_lost S D q p r rows out (inr (before, after, old, new, is, none, it, rais
       raised_row_lost S D q rows old new raised,
     )
 
-grown_row_lost : (old new : Row) → Grows old new → lost new ≡ lost old
-grown_row_lost (Half p r w) new h = ap lost h.2
-grown_row_lost (Three p w) new h = ap lost h.2
-grown_row_lost (Cross e f w) new h = ap lost h
-grown_row_lost (Cap e w) new h = ap lost h
-
-pub grown_lost : (rows out : List Row) → AllZip Grows rows out → sum_by lost out ≡ sum_by lost rows
-grown_lost [] [] h = refl
-grown_lost [] (y ∷ ys) h = absurd h
-grown_lost (x ∷ xs) [] h = absurd h
-grown_lost (x ∷ xs) (y ∷ ys) h = omega (arith, sum_by-cons lost x xs, sum_by-cons lost y ys, grown_row_lost x y h.0, grown_lost xs ys h.1)
-
 pub trial_lost : (S : List Point) (D : List Costed) (q p r : ℕ) (rows out : List Row) → IsTrial S D q p r rows out → sum_by lost out ≡ sum_by lost rows
 trial_lost S D q p r rows out (mid, lifted, raised) =
     grown_lost mid out (raised_grows S D q mid out raised) ∙ lifted_lost S D q p r (opened p r (lowered p rows)) mid lifted ∙ opened_lost p r (lowered p rows) ∙ lowered_lost p rows
@@ -122,14 +110,10 @@ scaled_sum f [] = omega arith
 scaled_sum f (row ∷ rows) =
     omega (arith, sum_by-cons lost (reweigh row (weight row * f)) (scaled f rows), ap (λ n. n * f) (sum_by-cons lost row rows), up_lost f row, scaled_sum f rows)
 
-not_true : (b : Bool) → not b ≡ true → b ≡ false
-not_true true h = absurd (true≢false (sym h))
-not_true false h = refl
-
 factor_cases : (q : ℕ) (rows : List Row) → ((factor q rows ≡ 60) × (q ≤ 10000) × (list_any is_taker rows ≡ false)) ⊎ (factor q rows ≡ 1)
 factor_cases q rows =
     elim (nat_le q 10000 && not (list_any is_taker rows)) as (λ t. (nat_le q 10000 && not (list_any is_taker rows)) ≡ t → ((let n : ℕ = cond t 60 1 in n ≡ 60) × (q ≤ 10000) × (list_any is_taker rows ≡ false)) ⊎ (let n : ℕ = cond t 60 1 in n ≡ 1)) [
-      | true ↦ λ e. inl (refl, leb-true q 10000 (and_parts (nat_le q 10000) (not (list_any is_taker rows)) e).0, not_true (list_any is_taker rows) (and_parts (nat_le q 10000) (not (list_any is_taker rows)) e).1)
+      | true ↦ λ e. inl (refl, leb-true q 10000 (and_parts (nat_le q 10000) (not (list_any is_taker rows)) e).0, not-true (list_any is_taker rows) (and_parts (nat_le q 10000) (not (list_any is_taker rows)) e).1)
       | false ↦ λ e. inr refl
     ] refl
 

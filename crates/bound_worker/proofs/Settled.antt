@@ -24,11 +24,10 @@ use Rattle.raise_laws.proofs.laws.Raises.{load_grows, load_more, step_of, step_v
 use Rattle.raise_laws.proofs.laws.Floored.{cost_turned}
 use Rattle.search_defs.specs.Priced.{lowered, opened}
 use Rattle.search_defs.proofs.laws.Elsewhere.{lowered_elsewhere}
-use Rattle.dual_prices.specs.Rooms.{IsCandidate, IsRaisedAt}
+use Rattle.dual_prices.specs.Raised.{IsCandidate, IsRaisedAt, IsFullWith, IsFullEnd}
 use Rattle.dual_prices.proofs.laws.Rooms.{candidate_allowed, load_turned, not_some}
 use Rattle.dual_prices.proofs.laws.InPlace.{split, replaced, raised_length, stand_in, at_stand, raised_by, candidate_of, end_of, point_of_stand}
-use Rattle.bound_worker.specs.declared.raising.Room.{Room}
-use Rattle.bound_worker.specs.Ends.{IsLeastRoomAt, IsFullWith, end_at, IsFullEnd, IsSettledAt, IsNoted, AreSettled, AreEnds}
+use Rattle.bound_worker.specs.Ends.{end_at, IsSettledAt, IsNoted, AreSettled, AreEnds}
 use Rattle.bound_worker.specs.Places.{IsOpened, IsElsewhere}
 
 -- a full pair at the row's point is a full pair
@@ -208,36 +207,11 @@ nothing_raised S D q k u s rows row l is stands valid f =
     same (Cross e f w) = ap (Cross e f) (let e : w + 0 ≡ w = omega arith in e)
     same (Cap e w) = ap (Cap e) (let e : w + 0 ≡ w = omega arith in e)
 
-stand_same : (row : Row) (v : ℕ) → stand (reweigh row v) ≡ stand row
-stand_same (Half p r w) v = refl
-stand_same (Three p w) v = refl
-stand_same (Cross e f w) v = refl
-stand_same (Cap e w) v = refl
-
--- the end of the least room is full after the row is raised by it
-pub noted_after : (S : List Point) (D : List Costed) (q k p : ℕ) (rows new : List Row) (old ends : List ℕ) (row : Row) (room : Room) → k < length rows → row ≡ get_or rows k row → stand row ≡ Some p → k < length old
-    → IsLeastRoomAt S D q rows row p (length S) (Some room) → new ≡ set rows k (reweigh row (weight row + room.more)) → ends ≡ set old k room.end → IsNoted S D q new k old ends
-noted_after S D q k p rows new old ends row room l is stands lo least so es =
-    let full_row : Row = reweigh row (weight row + room.more) in
-    let here : row_at new k ≡ full_row = ap (λ x. row_at x k) so ∙ get_or-set_same rows k full_row (Three 0 0) l in
-    let end : end_at ends k ≡ room.end = ap (λ x. end_at x k) es ∙ get_or-set_same old k room.end 0 lo in
-    let before : take k rows ++ row ∷ drop (k + 1) rows ≡ rows = (split rows k row is l).1 in
-    let after : new ≡ take k rows ++ full_row ∷ drop (k + 1) rows = so ∙ replaced rows k full_row l in
-    let more : load S (take k rows ++ full_row ∷ drop (k + 1) rows) p room.end ≡ (load S (take k rows ++ row ∷ drop (k + 1) rows) p room.end +ℤ pos (cond (counts S row p room.end) room.more 0)) =
-    load_more S (take k rows) (drop (k + 1) rows) row room.more p room.end (point_of_stand row p stands) in
-    let test : cond (counts S row p room.end) room.more 0 ≡ room.more = ap (λ t. cond t room.more 0) ((counts_decides S row p room.end).1 least.1.2) in
-    let loads : load S new p room.end ≡ pos (q * cost D p room.end) =
-    omega (arith, ints, ap (λ x. load S x p room.end) after, ap (λ x. load S x p room.end) before, more, test, least.2) in
-    record {
-      end = room.end;
-      changed = es;
-      settled = λ u s. (
-          let e : p ≡ u = same_Some p u (sym stands ∙ sym (stand_same row (weight row + room.more)) ∙ ap stand (sym here) ∙ s) in
-          subst (λ x. IsFullWith S D q new (row_at new k) u x) (sym end)
-          (subst (λ x. IsFullWith S D q new (row_at new k) x room.end) e
-          (subst (λ x. IsFullWith S D q new x p room.end) (sym here)
-          (record { within = least.0; counted = (least.1.0, least.1.1, (counts_decides S full_row p room.end).0 (counts_reweigh S row (weight row + room.more) p room.end ∙ (counts_decides S row p room.end).1 least.1.2)); full = loads }))));
-    }
+-- the end with which a row is full is noted
+pub noted_end : (S : List Point) (D : List Costed) (q k s : ℕ) (rows : List Row) (old ends : List ℕ) → k < length old → ends ≡ set old k s → IsFullEnd S D q rows k s → IsNoted S D q rows k old ends
+noted_end S D q k s rows old ends l is full =
+    let here : end_at ends k ≡ s = ap (λ x. end_at x k) is ∙ get_or-set_same old k s 0 l in
+    record { end = s; changed = is; settled = subst (IsFullEnd S D q rows k) (sym here) full }
 
 -- nothing is noted for a Cross or Cap row
 pub noted_none : (S : List Point) (D : List Costed) (q k : ℕ) (rows : List Row) (ends : List ℕ) → stand (row_at rows k) ≡ None → IsNoted S D q rows k ends ends
@@ -246,28 +220,6 @@ noted_none S D q k rows ends none = record {
   changed = sym (set-get_or ends k 0);
   settled = λ u s. absurd (not_some u (sym s ∙ none));
 }
-
--- the end of the least room of a row of a tight certificate
-pub full_end_of : (S : List Point) (D : List Costed) (q k p : ℕ) (rows : List Row) (row : Row) (room : Room) → k < length rows → row ≡ get_or rows k row → stand row ≡ Some p → IsTight S D q rows
-    → IsLeastRoomAt S D q rows row p (length S) (Some room) → IsFullEnd S D q rows k room.end
-full_end_of S D q k p rows row room l is stands tight least =
-    let here : row_at rows k ≡ row = sym (is ∙ get_or_default rows k row (Three 0 0) l) in
-    let f : IsFull S D q rows row = tight.full row (k, l, sym is) (point_of_stand row p stands) in
-    let nothing : room.more ≡ 0 = elim (candidate_of S p row f.i f.j f.ordered f.within f.clear f.counted (end_of S p row f.i f.j (at_stand row p stands) f.counted)) [
-      | inl h ↦ (let b : (load S rows p f.j +ℤ pos room.more) ≤ℤ pos (q * cost D p f.j) = least.3 f.j h.0 h.2 in
-          let a : load S rows p f.j ≡ pos (q * cost D p f.j) = subst (λ x. load S rows x f.j ≡ pos (q * cost D x f.j)) h.1 f.full in omega (arith, ints))
-      | inr h ↦ (let b : (load S rows p f.i +ℤ pos room.more) ≤ℤ pos (q * cost D p f.i) = least.3 f.i h.0 h.2 in
-          let a : load S rows f.i p ≡ pos (q * cost D f.i p) = subst (λ x. load S rows f.i x ≡ pos (q * cost D f.i x)) h.1 f.full in
-          omega (arith, ints, load_turned S rows f.i p, ap (λ n. q * n) (cost_turned D f.i p)))
-    ] in
-    λ u s. (
-    let e : p ≡ u = same_Some p u (sym stands ∙ ap stand (sym here) ∙ s) in
-    subst (λ x. IsFullWith S D q rows (row_at rows k) x room.end) e
-    (subst (λ x. IsFullWith S D q rows x p room.end) (sym here)
-    (record { within = least.0; counted = least.1; full = omega (arith, ints, least.2, nothing) })))
-
-pub no_stand : (S : List Point) (D : List Costed) (q k s : ℕ) (rows : List Row) → stand (row_at rows k) ≡ None → IsFullEnd S D q rows k s
-no_stand S D q k s rows none = λ u h. absurd (not_some u (sym h ∙ none))
 
 -- a row that a trial at p leaves
 pub elsewhere_settled : (S : List Point) (D : List Costed) (q p k : ℕ) (rows : List Row) (row : Row) (ends slice : List ℕ) → k < length rows → row ≡ get_or rows k row → IsElsewhere p k row slice → slice ≡ ends → IsValid S D q rows

@@ -12,6 +12,7 @@ ghost use Rattle.search_defs.specs.Words.{round_words};
 use crate::drawing::inner_points;
 use crate::rows::{factor_of, scaled_rows};
 use crate::trial::{present_of, round};
+use directions::ClearPairs;
 use dual_prices::{Certificate, Costs, RowList};
 use mcp_outside::NoMemory;
 use plane::Points;
@@ -43,11 +44,12 @@ fn rounds_of(
 {
     let _count = points.len();
     let mut words = Pcg32::new(seed, stream);
-    let mut present = present_of(alloc, points, costs, q, start)?;
+    let clear = ClearPairs::make(alloc, points)?;
+    let mut present = present_of(alloc, points, costs, q, &clear, start)?;
     for k in 0..rounds {
         let a = words.next_word();
         let b = words.next_word();
-        present = round(alloc, points, costs, q, inner, present, a, b)?;
+        present = round(alloc, points, costs, q, &clear, inner, present, a, b)?;
     }
     Ok(present.rows)
 }

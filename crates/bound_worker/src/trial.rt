@@ -11,8 +11,9 @@ ghost use Rattle.bound_worker.specs.Ends.{AreSettled, AreEnds};
 ghost use Rattle.search_defs.specs.Priced.{is_half, IsLifted, IsTrial, IsRound};
 
 use crate::drawing::{inner_of, other_of};
-use crate::raising::{full_ends, raise_row, raise_rows};
+use crate::raising::{fill_row, full_ends, raise_rows};
 use crate::rows::{lowered_rows, open_row, place_of};
+use directions::ClearPairs;
 use dual_prices::Costs;
 use mcp_outside::NoMemory;
 use plane::Points;
@@ -33,11 +34,13 @@ pub fn present_of(
     points: &Points,
     costs: &Costs,
     q: u64,
+    clear: &ClearPairs,
     rows: Vec<Row>,
 ) -> Result<Present, NoMemory>
     requires valid { IsValid points.now costs.now q rows.items }
     requires tight { IsTight points.now costs.now q rows.items }
     requires small { q ≤ MOST_DIVISOR }
+    requires clear { clear.now ≡ points.now }
     requires takers { sum_by lost rows.items ≤ 100000000000 }
     ensures rows { IfOk result (λ now. now.rows.items ≡ rows.items) }
     ensures ends { IfOk result (λ now. AreEnds points.now costs.now q now.rows.items now.ends.items) }
@@ -45,7 +48,7 @@ pub fn present_of(
     let _listed = costs.list();
     let _count = points.len();
     let kept = PointRows::make(alloc, points, rows)?;
-    let ends = full_ends(alloc, points, costs, q, &kept)?;
+    let ends = full_ends(alloc, points, costs, q, clear, &kept)?;
     Ok(Present {
         rows: kept.into_rows(),
         ends,
@@ -57,6 +60,7 @@ fn lift_row(
     points: &Points,
     costs: &Costs,
     q: u64,
+    clear: &ClearPairs,
     kept: &mut PointRows,
     ends: &mut Vec<u32>,
     p: u32,
@@ -65,6 +69,7 @@ fn lift_row(
     requires points { points.now ≡ kept.old.points }
     requires valid { IsValid points.now costs.now q kept.old.rows }
     requires small { q ≤ MOST_DIVISOR }
+    requires clear { clear.now ≡ points.now }
     requires takers { sum_by lost kept.old.rows ≤ 100000000000 }
     requires settled { AreSettled points.now costs.now q p 0 kept.old.rows ends.old.items }
     ensures lifted { IsLifted points.now costs.now q p r kept.old.rows kept.new.rows }
@@ -73,7 +78,7 @@ fn lift_row(
 {
     let _rows = kept.rows();
     if let Some(k) = place_of(kept.rows(), p, r) {
-        raise_row(points, costs, q, kept, ends, k as u32);
+        fill_row(points, costs, q, clear, kept, ends, k as u32);
     }
 }
 
@@ -83,6 +88,7 @@ fn trial(
     points: &Points,
     costs: &Costs,
     q: u64,
+    clear: &ClearPairs,
     present: &Present,
     p: u32,
     r: u32,
@@ -90,6 +96,7 @@ fn trial(
     requires valid { IsValid points.now costs.now q present.now.rows.items }
     requires ends { AreEnds points.now costs.now q present.now.rows.items present.now.ends.items }
     requires small { q ≤ MOST_DIVISOR }
+    requires clear { clear.now ≡ points.now }
     requires takers { sum_by lost present.now.rows.items ≤ 100000000000 }
     requires right { IsRight points.now (Half p r 0) }
     ensures trial { IfOk result (λ t. IsTrial points.now costs.now q p r present.now.rows.items t.rows.items) }
@@ -102,8 +109,8 @@ fn trial(
     let mut ends = Vec::from_slice(alloc, present.ends.as_slice())?;
     open_row(&mut list, &mut ends, p, r)?;
     let mut kept = PointRows::make(alloc, points, list)?;
-    lift_row(points, costs, q, &mut kept, &mut ends, p, r);
-    raise_rows(points, costs, q, &mut kept, &mut ends, p);
+    lift_row(points, costs, q, clear, &mut kept, &mut ends, p, r);
+    raise_rows(points, costs, q, clear, &mut kept, &mut ends, p);
     Ok(Present {
         rows: kept.into_rows(),
         ends,
@@ -116,6 +123,7 @@ pub fn round(
     points: &Points,
     costs: &Costs,
     q: u64,
+    clear: &ClearPairs,
     inner: &[u32],
     present: Present,
     a: u32,
@@ -124,6 +132,7 @@ pub fn round(
     requires valid { IsValid points.now costs.now q present.rows.items }
     requires ends { AreEnds points.now costs.now q present.rows.items present.ends.items }
     requires small { q ≤ MOST_DIVISOR }
+    requires clear { clear.now ≡ points.now }
     requires takers { sum_by lost present.rows.items ≤ 100000000000 }
     requires inner { IsInnerList points.now inner.now }
     requires some { 0 < length inner.now }
@@ -134,7 +143,7 @@ pub fn round(
     let _count = points.len();
     let p = inner_of(inner, a);
     let r = other_of(points, p, b);
-    let trial = trial(alloc, points, costs, q, &present, p, r)?;
+    let trial = trial(alloc, points, costs, q, clear, &present, p, r)?;
     if value_of(q, present.rows.as_slice(), 0) <= value_of(q, trial.rows.as_slice(), 0) {
         Ok(trial)
     } else {

@@ -3,7 +3,7 @@ ghost use Rattle.std.specs.Prelude.{◌≡◌, ◌<◌, ◌≤◌, ◌^◌, ℕ,
 ghost use Rattle.std.specs.List.{All};
 ghost use Rattle.plane.specs.declared.segment.Pair.{Pair};
 ghost use Rattle.partition_defs.specs.Partition.{IsConvexPartition};
-ghost use Rattle.partition_defs.specs.Triangulation.{AreDistinct};
+ghost use Rattle.partition_defs.specs.Triangulation.{AreDistinct, IsBorderList};
 ghost use Rattle.cost_defs.specs.Costs.{total};
 ghost use Rattle.price_defs.specs.Limits.{AreLight, IsIndexed};
 ghost use Rattle.price_defs.specs.Rows.{AreRight};
@@ -106,6 +106,7 @@ pub fn check_certificate(
     requires indexed { All (IsIndexed points.now) certificate.now.rows }
     requires count { length certificate.now.rows < 2 ^ 32 }
     ensures answer { IsCertAnswer points.now costs.now certificate.now.q certificate.now.rows result }
+    ensures border { IfOk result (λ v. (B : List Pair) × IsBorderList points.now B) }
     ensures bound { (v : ℕ) (K : List Pair) → result ≡ Ok v → IsConvexPartition points.now K → AreDistinct K → v ≤ total costs.now K }
 {
     let _count = points.len();

@@ -5,13 +5,14 @@ use Rattle.atomic_table.specs.Table.{Me, Splits}
 use Rattle.atomic_table.specs.Seated.{TableId}
 use Rattle.index_sets.specs.Indices.{contains, numbers_from}
 use Rattle.index_sets.specs.Owners.{one_of, rest_of}
-use Rattle.index_sets.proofs.Laws.{is_false, numbers_from-least, HasNoRepeat-numbers_from, IsPrefix-refl, get_elem?-inside}
+use Rattle.index_sets.proofs.Laws.{numbers_from-least, HasNoRepeat-numbers_from, IsPrefix-refl, get_elem?-inside}
 use Rattle.chronicle.specs.declared.table.View.{View}
 use Rattle.chronicle.specs.declared.table.About.{About}
 use Rattle.chronicle.specs.History.{whole_share, caller_share}
 use Rattle.chronicle.specs.Kept.{first_view, opened, going, without_caller, with_caller, Kept}
 use Rattle.chronicle.specs.Settled.{IsSettled, IsDealing, named, share_of}
 use Rattle.chronicle.proofs.Moves.{cuts_caller}
+use Rattle.std.proofs.lemmas.Bool.{false_from_ne_true}
 
 dealing-callers : (given n : ℕ) → given < n → numbers_from (1 + given) (n - given) ≡ (1 + given) ∷ numbers_from (1 + (given + 1)) (n - (given + 1))
 dealing-callers given n lt =
@@ -35,7 +36,7 @@ module _ {T : Type 0} (caller : T → ℕ) (touches : T → ℕ → Bool) (a : A
   module _ (entries : List T) (given : ℕ) (m : M) (d : IsDealing a entries given m) where
     pub dealing_cuts : (id : ℕ) → given < a.callers → Splits (Kept caller touches a) id m.0 (without_caller m.0) (with_caller m.0)
     dealing_cuts id lt = cuts_caller caller touches a id (1 + given) (numbers_from (1 + (given + 1)) (a.callers - (given + 1))) m.0 (ap (λ (z : V). z.live) d.view) (ap (λ (z : V). z.callers) d.view ∙ dealing-callers given a.callers lt)
-        (is_false (contains (numbers_from (1 + (given + 1)) (a.callers - (given + 1))) (1 + given)) (λ t. let z = numbers_from-least (1 + (given + 1)) (a.callers - (given + 1)) (1 + given) t in absurd (omega arith)))
+        (false_from_ne_true (contains (numbers_from (1 + (given + 1)) (a.callers - (given + 1))) (1 + given)) (λ t. let z = numbers_from-least (1 + (given + 1)) (a.callers - (given + 1)) (1 + given) t in absurd (omega arith)))
 
     pub dealing_next : (w : M) → given < a.callers → w ≡ (without_caller m.0, m.1) → IsDealing a entries (given + 1) w
     dealing_next w lt is = record {

@@ -12,12 +12,13 @@ use Rattle.atomic_table.proofs.Lists.{at_set, set_else}
 use Rattle.index_sets.specs.Indices.{contains, all_but, HasNoRepeat}
 use Rattle.index_sets.specs.Prefixes.{longer}
 use Rattle.index_sets.specs.Owners.{handed, merged, IsCut, one_of, rest_of}
-use Rattle.index_sets.proofs.Laws.{is_false, contains-append, HasNoRepeat-append, HasNoRepeat-all_but, HasNoRepeat-numbers_from, numbers_from-least, numbers_from-most, handed-here, handed-else, handed-others, merged-old, merged-else, IsCut-one, IsCut-none, IsCut-first, IsPrefix-refl, IsPrefix-append, IsPrefix-trans, IsPrefix-whole, IsPrefix-both, IsPrefix-length, longer-is_prefix, get_elem?-inside, get_elem?-below, get_elem?-prefix, get_elem?-snoc, each-set}
+use Rattle.index_sets.proofs.Laws.{contains-append, HasNoRepeat-append, HasNoRepeat-all_but, HasNoRepeat-numbers_from, numbers_from-least, numbers_from-most, handed-here, handed-else, handed-others, merged-old, merged-else, IsCut-one, IsCut-none, IsCut-first, IsPrefix-refl, IsPrefix-append, IsPrefix-trans, IsPrefix-whole, IsPrefix-both, IsPrefix-length, longer-is_prefix, get_elem?-inside, get_elem?-below, get_elem?-prefix, get_elem?-snoc, each-set}
 use Rattle.chronicle.specs.declared.table.View.{View}
 use Rattle.chronicle.specs.declared.table.Side.{Side}
 use Rattle.chronicle.specs.declared.table.About.{About}
 use Rattle.chronicle.specs.History.{IsCaller}
 use Rattle.chronicle.specs.Kept.{first_view, opened, spent, keeping, going, without_part, with_part, without_caller, with_caller, side_of, both, Tells, AreCallersFrom, Fits, Kept, learned, added, begun}
+use Rattle.std.proofs.lemmas.Bool.{false_from_ne_true}
 
 module _ {T : Type 0} (caller : T → ℕ) (touches : T → ℕ → Bool) (a : About) where
   abbrev V : Type 0
@@ -107,7 +108,7 @@ module _ {T : Type 0} (caller : T → ℕ) (touches : T → ℕ → Bool) (a : A
                   spares = λ i x p le x_at mine. ⊎_elim (λ was. f.tells.spares i x p le was mine)
                       (λ (new : (e ≡ x) × (i ≡ length r.log)). (
                         (λ q. other (sym (f.parts p mine) ∙ k.parts p (ap (contains v.parts) (q ∙ sym last_is) ∙ owns))),
-                        subst (λ y. touches y p ≡ false) new.0 (is_false (touches e p) (λ t. other (sym (f.parts p mine) ∙ k.parts p (covers p t)))),
+                        subst (λ y. touches y p ≡ false) new.0 (false_from_ne_true (touches e p) (λ t. other (sym (f.parts p mine) ∙ k.parts p (covers p t)))),
                       )) (get_elem?-snoc r.log e x i x_at);
                   lacks = λ i x c le x_at mine. ⊎_elim (λ was. f.tells.lacks i x c le was mine)
                       (λ (new : (e ≡ x) × (i ≡ length r.log)) q. other (sym (f.callers c mine).0 ∙ (k.callers c (ap (contains v.callers) (sym q ∙ ap caller (sym new.0)) ∙ own)).0)) (get_elem?-snoc r.log e x i x_at);

@@ -10,9 +10,8 @@ use Rattle.plane.specs.declared.segment.Pair.{Pair}
 use Rattle.plane.specs.Geometry.{IsInner, IsBorderPair}
 use Rattle.partition_defs.specs.Partition.{HasEnds, Joins, AreWithin, MeetsNeedsAt}
 use Rattle.cp_judge.specs.Ends.{IsOtherEnd, AreEnds, count_at, AreOthers, MeetsNeedsAmong}
-use Rattle.cp_judge.proofs.Marks.{end_in}
 use Rattle.plane.proofs.laws.Border.{border_back}
-use Rattle.partition_defs.proofs.laws.Joined.{joins_pair, joins_from}
+use Rattle.partition_defs.proofs.laws.Joined.{joins_pair, joins_from, other_within}
 
 joins_old : (K : List Pair) (e : Pair) (p r : ℕ) → Joins K p r → Joins (K ++ e ∷ []) p r
 joins_old K e p r j = joins_from (K ++ e ∷ []) j.1 p r (Contains-append_left K (e ∷ []) j.1 (joins_pair K p r j)) j.4
@@ -91,7 +90,7 @@ two_ends : (e : Pair) (p r : ℕ) → r ≡ p → ¬ HasEnds e p r
 two_ends e p r same h = let o : e.lo < e.hi = e.ordered in ⊎_elim (λ u. let a = u.0 in let b = u.1 in omega arith) (λ u. let a = u.0 in let b = u.1 in omega arith) h
 
 pub end_elsewhere : (S : List Point) (K : List Pair) (p r : ℕ) → AreWithin S K → Joins K p r → (r < length S) × (r ≢ p)
-end_elsewhere S K p r within j = (end_in j.1 p r (length S) j.4 (within j.1 (joins_pair K p r j)), λ same. two_ends j.1 p r same j.4)
+end_elsewhere S K p r within j = (other_within j.1 p r (length S) j.4 (within j.1 (joins_pair K p r j)), λ same. two_ends j.1 p r same j.4)
 
 -- the ends at p are other points
 pub others_of_ends : (S : List Point) (K : List Pair) (p : ℕ) (E : List ℕ) → AreWithin S K → AreEnds K p E → AreOthers S p E

@@ -1,23 +1,18 @@
 -- Pairs at positions of a list, and the first violations among them.
-use Rattle.std.proofs.Common.{◌≡◌, ◌↔◌, IsTrue, ◌<◌, ◌+◌, inl, inr, below_more, ⊎_elim, ℕ, Bool, true, false, List, length, slice_index_or, sym, ◌∙◌, subst, ap, arith}
-use Rattle.std.proofs.lemmas.Bool.{false≢true, cases_order}
+use Rattle.std.proofs.Common.{◌≡◌, ◌<◌, ◌+◌, below_more, ⊎_elim, ℕ, List, length, slice_index_or, sym, ◌∙◌, subst, arith}
+use Rattle.std.proofs.lemmas.Bool.{cases_order}
 use Rattle.std.proofs.lemmas.List.{get_or_default}
 use Rattle.plane.specs.declared.coordinates.Point.{Point}
 use Rattle.plane.specs.declared.segment.Pair.{Pair}
 use Rattle.plane.specs.First.{IsLeast}
-use Rattle.plane.specs.Geometry.{area, point, IsBetween, IsClear, AreCrossing}
+use Rattle.plane.specs.Geometry.{point, IsBetween, IsClear, AreCrossing}
 use Rattle.partition_defs.specs.Partition.{ArePlane}
 use Rattle.partition_defs.specs.Triangulation.{AreDistinct}
-use Rattle.plane.proofs.laws.Area.{area_first, area_second}
-use Rattle.cp_judge.specs.Spans.{HaveCommonEnd}
-use Rattle.cp_judge.specs.Violation.{IsPairAt, IsRepeatedAt, IsNotClear, AreCrossingAt, IsCrossing}
-use Rattle.plane.proofs.laws.Opposite.{not_opposite_zero, zero_not_opposite}
-
-pub refused : (b : Bool) (P : Type 0) → b ≡ false → (P → b ≡ true) → ¬ P
-refused b P e f p = false≢true (sym e ∙ f p)
-
-pub stands_same : (K : List Pair) (k : ℕ) (e f : Pair) → IsPairAt K k e → IsPairAt K k f → e ≡ f
-stands_same K k e f g h = sym g.1 ∙ get_or_default K k e f g.0 ∙ h.1
+use Rattle.plane.proofs.laws.Area.{area_first}
+use Rattle.crossings.specs.Crossings.{IsPairAt, DoCrossAt}
+use Rattle.crossings.proofs.laws.Ends.{stands_same}
+use Rattle.cp_judge.specs.Violation.{IsRepeatedAt, IsNotClear, IsCrossing}
+use Rattle.plane.proofs.laws.Opposite.{not_opposite_zero}
 
 pub stands : (K : List Pair) (k : ℕ) (d : Pair) → k < length K → IsPairAt K k (slice_index_or K k d)
 stands K k d l = (l, get_or_default K k (slice_index_or K k d) d l)
@@ -40,27 +35,8 @@ clear_more S K i e st clear before k f l is =
     below_more (λ (k : ℕ). (f : Pair) → slice_index_or K k f ≡ f → IsClear S f.lo f.hi) i (λ k m f is. before k f m is)
     (λ f is. let P : Pair → Type 0 = λ x. IsClear S x.lo x.hi in subst P (stands_same K i e f st (st.0, is)) clear) k l f is
 
-pub crossing_here : (S : List Point) (K : List Pair) (a b : ℕ) (e f : Pair) → IsPairAt K a e → IsPairAt K b f
-    → AreCrossingAt S K a b → AreCrossing S e.lo e.hi f.lo f.hi
-crossing_here S K a b e f se sf h =
-    let P : Pair → Type 0 = λ x. AreCrossing S x.lo x.hi f.lo f.hi in
-    let Q : Pair → Type 0 = λ y. AreCrossing S h.0.lo h.0.hi y.lo y.hi in
-    subst P (stands_same K a h.0 e h.2 se) (subst Q (stands_same K b h.1 f h.3 sf) h.4)
-
--- a test of the pairs at two positions
-pub crossing_tested : (S : List Point) (K : List Pair) (a b : ℕ) (e f : Pair) (r : Bool) → IsPairAt K a e → IsPairAt K b f
-    → IsTrue r ↔ AreCrossing S e.lo e.hi f.lo f.hi → IsTrue r ↔ AreCrossingAt S K a b
-crossing_tested S K a b e f r se sf h = (λ t. (e, f, se, sf, h.0 t), λ c. h.1 (crossing_here S K a b e f se sf c))
-
 pub crosses_itself : (S : List Point) (a b : ℕ) → ¬ AreCrossing S a b a b
 crosses_itself S a b h = not_opposite_zero _ _ (area_first (point S a) (point S b)) h.0
-
--- pairs with a common end don't cross
-pub common_end : (S : List Point) (e f : Pair) → HaveCommonEnd e f → ¬ AreCrossing S e.lo e.hi f.lo f.hi
-common_end S e f (inl (inl h)) c = not_opposite_zero _ _ (ap (λ i. area (point S e.lo) (point S e.hi) (point S i)) (sym h) ∙ area_first (point S e.lo) (point S e.hi)) c.0
-common_end S e f (inl (inr h)) c = zero_not_opposite _ _ (ap (λ i. area (point S e.lo) (point S e.hi) (point S i)) (sym h) ∙ area_first (point S e.lo) (point S e.hi)) c.0
-common_end S e f (inr (inl h)) c = not_opposite_zero _ _ (ap (λ i. area (point S e.lo) (point S e.hi) (point S i)) (sym h) ∙ area_second (point S e.lo) (point S e.hi)) c.0
-common_end S e f (inr (inr h)) c = zero_not_opposite _ _ (ap (λ i. area (point S e.lo) (point S e.hi) (point S i)) (sym h) ∙ area_second (point S e.lo) (point S e.hi)) c.0
 
 same_position : (S : List Point) (K : List Pair) (k m : ℕ) (e f : Pair) → k ≡ m → IsPairAt K k e → IsPairAt K m f
     → ¬ AreCrossing S e.lo e.hi f.lo f.hi
@@ -70,7 +46,7 @@ same_position S K k m e f s he hf h =
     let Q : Pair → Type 0 = λ x. AreCrossing S e.lo e.hi x.lo x.hi in
     crosses_itself S e.lo e.hi (subst Q (sym same) h)
 
-pub plane_from : (S : List Point) (K : List Pair) → ((k m : ℕ) → k < m → m < length K → ¬ AreCrossingAt S K k m) → ArePlane S K
+pub plane_from : (S : List Point) (K : List Pair) → ((k m : ℕ) → k < m → m < length K → ¬ DoCrossAt S K k m) → ArePlane S K
 plane_from S K none e f he hf h =
     ⊎_elim (λ s. same_position S K he.0 hf.0 e f s (he.1, he.2) (hf.1, hf.2) h)
     (λ u. ⊎_elim (λ l. none he.0 hf.0 l hf.1 (e, f, (he.1, he.2), (hf.1, hf.2), h))
@@ -78,9 +54,9 @@ plane_from S K none e f he hf h =
     (cases_order he.0 hf.0)
 
 pub crossing_found : (S : List Point) (K : List Pair) (a b : ℕ) (e f : Pair) → IsPairAt K a e → IsPairAt K b f
-    → a < b → AreCrossingAt S K a b
-    → ((k m : ℕ) → k < a → k < m → m < length K → ¬ AreCrossingAt S K k m)
-    → ((m : ℕ) → a < m → m < b → ¬ AreCrossingAt S K a m) → IsCrossing S K e f
+    → a < b → DoCrossAt S K a b
+    → ((k m : ℕ) → k < a → k < m → m < length K → ¬ DoCrossAt S K k m)
+    → ((m : ℕ) → a < m → m < b → ¬ DoCrossAt S K a m) → IsCrossing S K e f
 crossing_found S K a b e f se sf l h before after = (
   a,
   b,
@@ -91,7 +67,7 @@ crossing_found S K a b e f se sf l h before after = (
     within = sf.0;
     holds = h;
     before = λ k m o n c. ⊎_elim (λ lk. before k m lk o n)
-        (λ u. let P : ℕ → Type 0 = λ x. ¬ AreCrossingAt S K x m in
+        (λ u. let P : ℕ → Type 0 = λ x. ¬ DoCrossAt S K x m in
         let Q : ℕ → Type 0 = λ x. x < m in
         subst P (sym u.0) (after m (subst Q u.0 o) u.1)) c;
   },

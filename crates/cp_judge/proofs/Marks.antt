@@ -9,12 +9,11 @@ use Rattle.plane.specs.Geometry.{IsInner}
 use Rattle.partition_defs.specs.Partition.{HasEnds, AreWithin, IsMet, MeetsNeedsAt}
 use Rattle.cp_judge.specs.Ends.{IsOtherEnd}
 use Rattle.cp_judge.specs.Searching.{IsInNeedOfAnother, IsMetBy, IsMetBefore, mark, AddsMarks}
-use Rattle.cp_judge.specs.Violation.{IsPairAt, IsUnmetAt, IsUnmet}
-use Rattle.cp_judge.proofs.Items.{stands_same}
+use Rattle.crossings.specs.Crossings.{IsPairAt}
+use Rattle.cp_judge.specs.Violation.{IsUnmetAt, IsUnmet}
+use Rattle.crossings.proofs.laws.Ends.{stands_same}
 use Rattle.std.proofs.lemmas.Bool.{false_from_ne_true}
-
-pub end_in : (e : Pair) (p r n : ℕ) → HasEnds e p r → e.hi < n → r < n
-end_in e p r n h l = let o : e.lo < e.hi = e.ordered in ⊎_elim (λ u. let v = u.1 in omega arith) (λ u. let v = u.0 in omega arith) h
+use Rattle.partition_defs.proofs.laws.Joined.{other_within}
 
 pub marks_as : (P Q : ℕ → Type 0) (n : ℕ) (M N : List Bool) → ((q : ℕ) → P q → Q q) → ((q : ℕ) → Q q → P q) → AddsMarks P n M N → AddsMarks Q n M N
 marks_as P Q n M N to from h q l =
@@ -57,7 +56,7 @@ met_before_more S K i e p n M N O st h g =
 is_met : (S : List Point) (K : List Pair) (p q : ℕ) → AreWithin S K → IsMetBefore S K (length K) p q → IsMet S K p q
 is_met S K p q within u =
     let v = u.4 in
-    (v.0, end_in u.1 p v.0 (length S) v.1 (within u.1 (u.0, u.3.0, u.3.1)), (u.0, u.1, u.3.0, u.3.1, v.1), v.2.1)
+    (v.0, other_within u.1 p v.0 (length S) v.1 (within u.1 (u.0, u.3.0, u.3.1)), (u.0, u.1, u.3.0, u.3.1, v.1), v.2.1)
 
 met_before : (S : List Point) (K : List Pair) (p q : ℕ) → q ≢ p → IsMet S K p q → IsMetBefore S K (length K) p q
 met_before S K p q d u =

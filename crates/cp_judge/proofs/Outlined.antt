@@ -25,6 +25,7 @@ use Rattle.plane_laws.proofs.Order.{before_trans}
 use Rattle.cp_judge.proofs.Chained.{chain_step, step_on_chain}
 use Rattle.plane.proofs.laws.Border.{border_back}
 use Rattle.partition_defs.proofs.laws.Joined.{join_back}
+use Rattle.plane_laws.proofs.Separation.{one_first}
 
 -- all indices in another order
 pub indices_moved : (S : List Point) (O P : List ℕ) → length O ≡ length S → length P ≡ length S → ((k : ℕ) → k < length O → slice_index O k ≡ k) → IsPermutation O P → HasIndices S P
@@ -105,18 +106,12 @@ marks_on_border S O C side M N bent order chain marks old v hv t inner = elim (m
   | inr (i, hi, e) ↦ stop_not_inner S O C side bent order chain i hi (subst (IsInner S) (sym e) inner)
 ]
 
-precedes_or : (p q : Point) → p ≢ q → IsBefore p q ⊎ IsBefore q p
-precedes_or p q apart =
-    by_sign (q.x -ℤ p.x) (λ h. inl (inl (omega (arith, ints))))
-    (λ z. by_sign (q.y -ℤ p.y) (λ h. inl (inr (omega (arith, ints), omega (arith, ints)))) (λ y. absurd (apart (same_point p q (omega (arith, ints)) (omega (arith, ints))))) (λ h. inr (inr (omega (arith, ints), omega (arith, ints)))))
-    (λ h. inr (inl (omega (arith, ints))))
-
 -- the border, from its two sides
 pub border_of_sides : (S : List Point) (K : List Pair) → AreApart S → HasSide S K Left → HasSide S K Right → HasBorder S K
 border_of_sides S K apart left right i j ij hj pair =
     let hi : i < length S = omega arith in
     let ne : j ≢ i = λ e. omega arith in
-    elim (precedes_or (point S i) (point S j) (apart i j ij hj)) [
+    elim (one_first (point S i) (point S j) (apart i j ij hj)) [
       | inl h ↦ elim (step_of_border S i j hj ne pair) [ inl step ↦ left i j hi h step | inr step ↦ right i j hi h step ]
       | inr h ↦ join_back K j i (elim (step_of_border S j i hi (λ e. ne (sym e)) (border_back S i j pair)) [ inl step ↦ left j i hj h step | inr step ↦ right j i hj h step ])
     ]

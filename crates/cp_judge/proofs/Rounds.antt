@@ -9,9 +9,9 @@ use Rattle.partition_defs.specs.Partition.{Joins, AreWithin, MeetsNeedsAt}
 use Rattle.cp_judge.specs.declared.turning.End.{End}
 use Rattle.cp_judge.specs.Ends.{AreOthers, MeetsNeedsAmong}
 use Rattle.cp_judge.specs.Turning.{AreEndsOf, IsTarget}
-use Rattle.cp_judge.specs.Violation.{IsPairAt}
+use Rattle.crossings.specs.Crossings.{IsPairAt}
 use Rattle.cp_judge.proofs.Gathered.{end_elsewhere}
-use Rattle.cp_judge.proofs.Boxing.{set_more}
+use Rattle.crossings.proofs.laws.Blocks.{set_more}
 
 -- both ends of one more segment
 pub two_more : (K : List Pair) (Z : List End) (k : ℕ) (e : Pair) (y z d : End) → 2 * k + 1 < length Z → IsPairAt K k e → y.at ≡ e.lo → y.to ≡ e.hi → z.at ≡ e.hi → z.to ≡ e.lo

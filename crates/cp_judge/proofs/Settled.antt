@@ -9,10 +9,11 @@ use Rattle.partition_defs.specs.Partition.{AreClear, ArePlane, HasBorder, MeetsN
 use Rattle.partition_defs.specs.Triangulation.{AreDistinct}
 use Rattle.cp_judge.specs.declared.answer.Judgement.{Judgement}
 use Rattle.cp_judge.specs.declared.answer.Judgement.TheVariants.{Convex, Doubled, NotClear, Crossing, MissingBorder, Unmet}
-use Rattle.cp_judge.specs.Violation.{IsPairAt, IsRepeatedAt, IsDoubled, IsUnclearAt, IsNotClear, AreCrossingAt, IsCrossing, IsMissing, IsMissingBorder, IsUnmetAt, HasUnmet, IsUnmet}
+use Rattle.crossings.specs.Crossings.{IsPairAt, DoCrossAt}
+use Rattle.cp_judge.specs.Violation.{IsRepeatedAt, IsDoubled, IsUnclearAt, IsNotClear, IsCrossing, IsMissing, IsMissingBorder, IsUnmetAt, HasUnmet, IsUnmet}
 use Rattle.cp_judge.specs.Judgement.{IsJudgement}
 use Rattle.plane.proofs.laws.Pairs.{pair_same}
-use Rattle.cp_judge.proofs.Items.{stands_same}
+use Rattle.crossings.proofs.laws.Ends.{stands_same}
 
 pub least_same : (P : ℕ → Type 0) (n k m : ℕ) → IsLeast P n k → IsLeast P n m → k ≡ m
 least_same P n k m h g =
@@ -44,8 +45,8 @@ not_clear_same S K e f p q h g =
 
 crossing_same : (S : List Point) (K : List Pair) (e e' f f' : Pair) → IsCrossing S K e f → IsCrossing S K e' f' → (e ≡ e') × (f ≡ f')
 crossing_same S K e e' f f' h g =
-    let a : h.0 ≡ g.0 = row_same (AreCrossingAt S K) (length K) h.0 h.1 g.0 g.1 h.4 g.4 in
-    let b : h.1 ≡ g.1 = column_same (AreCrossingAt S K) (length K) h.0 h.1 g.0 g.1 a h.4 g.4 in
+    let a : h.0 ≡ g.0 = row_same (DoCrossAt S K) (length K) h.0 h.1 g.0 g.1 h.4 g.4 in
+    let b : h.1 ≡ g.1 = column_same (DoCrossAt S K) (length K) h.0 h.1 g.0 g.1 a h.4 g.4 in
     (stands_at_same K h.0 g.0 e e' a h.2 g.2, stands_at_same K h.1 g.1 f f' b h.3 g.3)
 
 missing_same : (S : List Point) (K : List Pair) (e f : Pair) → IsMissingBorder S K e → IsMissingBorder S K f → e ≡ f

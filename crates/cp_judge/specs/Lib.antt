@@ -2,8 +2,8 @@ pub mod Ends
 pub mod Violation
 pub mod Searching
 pub mod Ascending
-pub mod Spans
+pub mod Sweeping
 pub mod Judgement
-pub mod Bounds
+pub mod Blocks
 pub mod Turning
 pub mod Chains

@@ -8,7 +8,8 @@ use Rattle.plane.specs.declared.coordinates.Turn.TheVariants.{Left}
 use Rattle.plane.specs.Hull.{IsBorderStep}
 use Rattle.plane.specs.Geometry.{IsInNeed}
 use Rattle.partition_defs.specs.Partition.{HasEnds, Joins}
-use Rattle.cp_judge.specs.Violation.{IsPairAt, IsMissing}
+use Rattle.crossings.specs.Crossings.{IsPairAt}
+use Rattle.cp_judge.specs.Violation.{IsMissing}
 
 -- k is the least number from after a to below n with P, or none where no such number has it
 abbrev pub IsLeastAfterOrNone : (ℕ → Type 0) → (a n : ℕ) → Option ℕ → Type 0

@@ -1,15 +1,12 @@
 -- How a list of segments fails to be a convex partition: each kind's first case, with what it shows. (This project's own
 -- order.)
-use Rattle.std.specs.Prelude.{◌≡◌, ◌≢◌, ℕ, ◌<◌, List, length, slice_index_or}
+use Rattle.std.specs.Prelude.{◌≢◌, ℕ, ◌<◌, List, length}
 use Rattle.plane.specs.declared.coordinates.Point.{Point}
 use Rattle.plane.specs.declared.segment.Pair.{Pair}
 use Rattle.plane.specs.First.{IsLeast, IsFirstPair}
-use Rattle.plane.specs.Geometry.{IsBetween, AreCrossing, IsBorderPair, IsInner}
+use Rattle.plane.specs.Geometry.{IsBetween, IsBorderPair, IsInner}
 use Rattle.partition_defs.specs.Partition.{Joins, IsMet}
-
--- e stands at position k
-abbrev pub IsPairAt : List Pair → ℕ → Pair → Type 0
-IsPairAt K k e = (k < length K) × (slice_index_or K k e ≡ e)
+use Rattle.crossings.specs.Crossings.{IsPairAt, DoCrossAt}
 
 -- the pair at position k stands at an earlier one too
 abbrev pub IsRepeatedAt : List Pair → ℕ → Type 0
@@ -28,14 +25,10 @@ abbrev pub IsNotClear : List Point → List Pair → Pair → ℕ → Type 0
 IsNotClear S K e p =
     (k : ℕ) × IsPairAt K k e × IsLeast (IsUnclearAt S K) (length K) k × IsLeast (λ q. IsBetween S q e.lo e.hi) (length S) p
 
--- the pairs at positions a and b cross
-abbrev pub AreCrossingAt : List Point → List Pair → (a b : ℕ) → Type 0
-AreCrossingAt S K a b = (e : Pair) × (f : Pair) × IsPairAt K a e × IsPairAt K b f × AreCrossing S e.lo e.hi f.lo f.hi
-
 -- e and f are the pairs at the first two positions whose pairs cross
 abbrev pub IsCrossing : List Point → List Pair → (e f : Pair) → Type 0
 IsCrossing S K e f =
-    (a : ℕ) × (b : ℕ) × IsPairAt K a e × IsPairAt K b f × IsFirstPair (AreCrossingAt S K) (length K) a b
+    (a : ℕ) × (b : ℕ) × IsPairAt K a e × IsPairAt K b f × IsFirstPair (DoCrossAt S K) (length K) a b
 
 -- i-j is a border pair that isn't in the set
 abbrev pub IsMissing : List Point → List Pair → (i j : ℕ) → Type 0

@@ -3,20 +3,26 @@ ghost use Rattle.std.specs.Prelude.{◌<◌, length, MatchOption};
 ghost use Rattle.plane.specs.First.{IsLeastOrNone};
 ghost use Rattle.plane.specs.Geometry.{IsBetween};
 ghost use Rattle.partition_defs.specs.Partition.{AreWithin, AreClear};
-ghost use Rattle.cp_judge.specs.Bounds.{AreBlocks};
+ghost use Rattle.cp_judge.specs.Blocks.{AreBlocks};
 ghost use Rattle.cp_judge.specs.Violation.{IsNotClear};
 
-use crate::blocks::{BLOCK_COUNT, may_have_between, set_blocks};
-use crate::bounds::Bounds;
+use crate::blocks::{BLOCK_COUNT, STRIP_COUNT, may_have_between, set_blocks};
+use boxes::Bounds;
 use plane::{MOST_POINTS, Pair, Point, Points};
 
 // The least point strictly between the ends of a pair, or none.
-fn first_between(points: &Points, places: &[Point], bounds: &[Bounds], e: Pair) -> Option<u32>
-    requires blocks { AreBlocks points.now places.now bounds.now }
+fn first_between(
+    points: &Points,
+    places: &[Point],
+    bounds: &[Bounds],
+    strips: &[Bounds],
+    e: Pair,
+) -> Option<u32>
+    requires blocks { AreBlocks points.now places.now bounds.now strips.now }
     requires within { e.hi < length points.now }
     ensures { IsLeastOrNone (λ k. IsBetween points.now k e.lo e.hi) (length points.now) result }
 {
-    if may_have_between(places, bounds, points.at(e.lo()), points.at(e.hi())) {
+    if may_have_between(places, bounds, strips, points.at(e.lo()), points.at(e.hi())) {
         points.first_between(e)
     } else {
         None
@@ -31,10 +37,11 @@ pub fn first_not_clear(points: &Points, list: &[Pair]) -> Option<(Pair, u32)>
     let origin = Point { x: 0, y: 0 };
     let mut room = [origin; MOST_POINTS];
     let mut bounds = [Bounds::around(origin); BLOCK_COUNT];
+    let mut strips = [Bounds::around(origin); STRIP_COUNT];
     let places = &mut room[..points.len() as usize];
-    set_blocks(points, places, &mut bounds);
+    set_blocks(points, places, &mut bounds, &mut strips);
     for e in list {
-        if let Some(p) = first_between(points, places, &bounds, *e) {
+        if let Some(p) = first_between(points, places, &bounds, &strips, *e) {
             return Some((*e, p));
         }
     }

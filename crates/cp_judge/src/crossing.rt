@@ -1,46 +1,51 @@
-// Pairs that cross. Only pairs whose ranges of x and of y meet are compared, where the list isn't too long to put them in order.
-ghost use Rattle.std.specs.Prelude.{◌≡◌, ◌<◌, ◌≤◌, ◌↔◌, ◌⊎◌, ◌<ℤ◌, ℕ, length, IsTrue, IsFalse, MatchOption};
+// Pairs that cross. Where few ranges of x overlap, each segment is compared with those whose ranges meet its own; else blocks of
+// segments are asked. A list that is too long to be put in order is compared pair by pair.
+ghost use Rattle.std.specs.Prelude.{◌≡◌, ◌<◌, ◌≤◌, ◌^◌, ℕ, length, IsTrue, MatchOption};
+ghost use Rattle.std.specs.Int.{int_min, int_max};
 ghost use Rattle.partition_defs.specs.Partition.{AreWithin, ArePlane};
+ghost use Rattle.crossings.specs.Crossings.{DoCrossAt, CrossesLater};
+ghost use Rattle.crossings.specs.Segments.{segment, IsSegment, AreSegments, AreInBlocks};
 ghost use Rattle.cp_judge.specs.Searching.{IsLeastAfterOrNone};
-ghost use Rattle.cp_judge.specs.Violation.{AreCrossingAt, IsCrossing};
-ghost use Rattle.cp_judge.specs.Spans.{span, HasRange, IsSpan, AreSpans, HaveCommonEnd, AreByLeft, IsUpToCrossing, CrossNoneBefore};
+ghost use Rattle.cp_judge.specs.Violation.{IsCrossing};
+ghost use Rattle.cp_judge.specs.Sweeping.{AreByLeft, IsBelow, IsUpToCrossing, CrossNoneBefore};
 
 use crate::MOST_ORDERED;
+use crossings::{Block, Segment, copy_segments, cross_at, may_cross, set_blocks};
 use plane::{Pair, Points};
 
 // How many positions are tried before the list is put in order.
-const SOON: usize = 16;
+const SOON: u32 = 4;
 
-// The least and the greatest x of a pair's ends, alike their y, and the position at which the pair stands.
-#[derive(Clone, Copy)]
-struct Span {
-    left: i64,
-    right: i64,
-    low: i64,
-    high: i64,
-    place: usize,
-}
+// How many later segments, for each one, may begin before it ends where each is still compared with these.
+const FEW_OVERLAPS: usize = 256;
+
+// As many blocks and groups of segments as the most ordered pairs fill.
+const BLOCK_COUNT: usize = 1_250;
+
+const GROUP_COUNT: usize = 79;
 
 /// The pairs at the first two positions, by the first and then the second, whose pairs cross, or none.
 pub fn first_crossing(points: &Points, list: &[Pair]) -> Option<(Pair, Pair)>
-    requires { AreWithin points.now list.now }
+    requires within { AreWithin points.now list.now }
+    requires count { length list.now < 2 ^ 32 }
     ensures { MatchOption result (ArePlane points.now list.now) (λ v. IsCrossing points.now list.now v.0 v.1) }
 {
-    for a in first_to_try(points, list)..list.len() {
+    for a in first_to_try(points, list)..list.len() as u32 {
         if let Some(b) = first_crossed(points, list, a) {
-            return Some((list[a], list[b]));
+            return Some((list[a as usize], list[b as usize]));
         }
     }
     None
 }
 
 // The least position after this one whose pair crosses the one here, or none.
-fn first_crossed(points: &Points, list: &[Pair], a: usize) -> Option<usize>
+fn first_crossed(points: &Points, list: &[Pair], a: u32) -> Option<u32>
     requires within { AreWithin points.now list.now }
+    requires count { length list.now < 2 ^ 32 }
     requires position { a < length list.now }
-    ensures { IsLeastAfterOrNone (AreCrossingAt points.now list.now a) a (length list.now) result }
+    ensures { IsLeastAfterOrNone (DoCrossAt points.now list.now a) a (length list.now) result }
 {
-    for b in a + 1..list.len() {
+    for b in a + 1..list.len() as u32 {
         if cross_at(points, list, a, b) {
             return Some(b);
         }
@@ -48,50 +53,44 @@ fn first_crossed(points: &Points, list: &[Pair], a: usize) -> Option<usize>
     None
 }
 
-// Whether the pairs at two positions cross.
-fn cross_at(points: &Points, list: &[Pair], a: usize, b: usize) -> bool
-    requires within { AreWithin points.now list.now }
-    requires a_in { a < length list.now }
-    requires b_in { b < length list.now }
-    ensures { IsTrue result ↔ AreCrossingAt points.now list.now a b }
-{
-    let (e, f) = (list[a], list[b]);
-    !have_common_end(e, f) && points.cross(e, f)
-}
-
-// Whether two pairs have an end in common. Such pairs don't cross.
-fn have_common_end(e: Pair, f: Pair) -> bool
-    ensures { IsTrue result → HaveCommonEnd e f }
-{
-    e.lo() == f.lo() || e.lo() == f.hi() || e.hi() == f.lo() || e.hi() == f.hi()
-}
-
 // A position before which no pair crosses a later one: the least of a crossing, or 0 in a list that is too long to order.
-fn first_to_try(points: &Points, list: &[Pair]) -> usize
-    requires { AreWithin points.now list.now }
+fn first_to_try(points: &Points, list: &[Pair]) -> u32
+    requires within { AreWithin points.now list.now }
+    requires count { length list.now < 2 ^ 32 }
     ensures { CrossNoneBefore points.now list.now result }
 {
     if list.len() > MOST_ORDERED || crosses_soon(points, list) {
         return 0;
     }
-    let mut room = [Span {
-        left: 0,
-        right: 0,
-        low: 0,
-        high: 0,
-        place: 0,
-    }; MOST_ORDERED];
-    let spans = &mut room[..list.len()];
-    set_spans(points, list, spans);
-    spans.sort_unstable_by_key(|span| span.left);
-    least_crossing(points, list, spans)
+    least_within(
+        points,
+        list,
+        &mut [Segment::nowhere(); MOST_ORDERED][..list.len()],
+    )
+}
+
+// The least position of a pair that crosses a later one, or how many pairs there are. It needs as much room as there are pairs.
+fn least_within(points: &Points, list: &[Pair], segments: &mut [Segment]) -> u32
+    requires within { AreWithin points.now list.now }
+    requires few { length list.now ≤ MOST_ORDERED }
+    requires room { length segments.old ≡ length list.now }
+    ensures { CrossNoneBefore points.now list.now result }
+{
+    copy_segments(points, list, segments);
+    segments.sort_unstable_by_key(|z| z.from.x);
+    if overlap_much(segments) {
+        least_in_blocks(points, list, segments)
+    } else {
+        least_crossing(points, list, segments)
+    }
 }
 
 // Whether a pair at one of the first positions crosses a later one, as in a list with many crossings.
 fn crosses_soon(points: &Points, list: &[Pair]) -> bool
-    requires { AreWithin points.now list.now }
+    requires within { AreWithin points.now list.now }
+    requires count { length list.now < 2 ^ 32 }
 {
-    for a in 0..list.len().min(SOON) {
+    for a in 0..SOON.min(list.len() as u32) {
         if first_crossed(points, list, a).is_some() {
             return true;
         }
@@ -99,87 +98,147 @@ fn crosses_soon(points: &Points, list: &[Pair]) -> bool
     false
 }
 
-fn span_of(points: &Points, e: Pair, place: usize) -> Span
-    requires { e.hi < length points.now }
-    ensures range { HasRange points.now e result }
-    ensures place { result.place ≡ place }
-{
-    let (p, q) = (points.at(e.lo()), points.at(e.hi()));
-    Span {
-        left: p.x.min(q.x),
-        right: p.x.max(q.x),
-        low: p.y.min(q.y),
-        high: p.y.max(q.y),
-        place,
+// Whether many ranges of x overlap, of segments that stand by their left ends.
+fn overlap_much(segments: &[Segment]) -> bool {
+    let mut overlaps = 0usize;
+    for (k, z) in segments.iter().enumerate() {
+        let end = segments.partition_point(|w| w.from.x < z.to.x);
+        overlaps = overlaps.saturating_add(end.saturating_sub(k));
     }
+    segments.len().saturating_mul(FEW_OVERLAPS) < overlaps
 }
 
-// Puts the span of each pair at the pair's position.
-fn set_spans(points: &Points, list: &[Pair], spans: &mut [Span])
+// The same by blocks.
+fn least_in_blocks(points: &Points, list: &[Pair], segments: &mut [Segment]) -> u32
     requires within { AreWithin points.now list.now }
-    requires room { length spans.old ≡ length list.now }
-    ensures { AreSpans points.now list.now spans.new }
-{
-    for place in 0..list.len() {
-        spans[place] = span_of(points, list[place], place);
-    }
-}
-
-// The least position of a pair that crosses another, or how many pairs there are.
-fn least_crossing(points: &Points, list: &[Pair], spans: &[Span]) -> usize
-    requires within { AreWithin points.now list.now }
-    requires spans { AreSpans points.now list.now spans.now }
-    requires ordered { AreByLeft spans.now }
+    requires few { length list.now ≤ MOST_ORDERED }
+    requires room { length segments.old ≡ length list.now }
     ensures { CrossNoneBefore points.now list.now result }
 {
-    let mut least = list.len();
-    for k in 0..spans.len() {
-        least = least_crossing_at(points, list, spans, k, least);
+    let mut blocks = [Block::around(Segment::nowhere()); BLOCK_COUNT];
+    let mut groups = [Block::around(Segment::nowhere()); GROUP_COUNT];
+    set_blocks(points, list, segments, &mut blocks, &mut groups);
+    least_by_blocks(points, list, segments, &blocks, &groups)
+}
+
+// The same, once the blocks are set. Segments are asked in the order of the blocks, since neighbours look at the same ones.
+fn least_by_blocks(
+    points: &Points,
+    list: &[Pair],
+    segments: &[Segment],
+    blocks: &[Block],
+    groups: &[Block],
+) -> u32
+    requires within { AreWithin points.now list.now }
+    requires count { length list.now < 2 ^ 32 }
+    requires in_blocks { AreInBlocks points.now list.now segments.now blocks.now groups.now }
+    requires few { length blocks.now < 2 ^ 32 }
+    requires few_groups { length groups.now < 2 ^ 32 }
+    ensures { CrossNoneBefore points.now list.now result }
+{
+    let mut least = list.len() as u32;
+    for k in 0..segments.len() {
+        least = least_with(points, list, segments, blocks, groups, segments[k], least);
     }
     least
 }
 
-// The least of a position and those of the pairs that cross, of which one has span k and the other a later span. No
-// span from the first that begins right of span k's end can be of a pair that crosses.
+// The least of a position and, where the pair of this segment may cross a later one, the position of this pair.
+fn least_with(
+    points: &Points,
+    list: &[Pair],
+    segments: &[Segment],
+    blocks: &[Block],
+    groups: &[Block],
+    z: Segment,
+    least: u32,
+) -> u32
+    requires within { AreWithin points.now list.now }
+    requires in_blocks { AreInBlocks points.now list.now segments.now blocks.now groups.now }
+    requires few { length blocks.now < 2 ^ 32 }
+    requires few_groups { length groups.now < 2 ^ 32 }
+    requires z_of { IsSegment points.now list.now z }
+    ensures below { result ≤ least }
+    ensures none { z.place < result → (b : ℕ) → ¬ CrossesLater points.now list.now z.place b }
+{
+    if least <= z.place {
+        return least;
+    }
+    if may_cross(points, list, segments, blocks, groups, z) {
+        z.place
+    } else {
+        least
+    }
+}
+
+// The least position of a pair that crosses another, or how many pairs there are, by the ranges of x.
+fn least_crossing(points: &Points, list: &[Pair], segments: &[Segment]) -> u32
+    requires within { AreWithin points.now list.now }
+    requires count { length list.now < 2 ^ 32 }
+    requires segments { AreSegments points.now list.now segments.now }
+    requires ordered { AreByLeft segments.now }
+    ensures { CrossNoneBefore points.now list.now result }
+{
+    let mut least = list.len() as u32;
+    for k in 0..segments.len() {
+        least = least_crossing_at(points, list, segments, k, least);
+    }
+    least
+}
+
+// The least of a position and those of the pairs that cross, of which one has segment k and the other a later one. No segment
+// from the first that begins where segment k ends, or right of that, can be of a pair that crosses.
 fn least_crossing_at(
     points: &Points,
     list: &[Pair],
-    spans: &[Span],
+    segments: &[Segment],
     k: usize,
-    least: usize,
-) -> usize
+    least: u32,
+) -> u32
     requires within { AreWithin points.now list.now }
-    requires spans { AreSpans points.now list.now spans.now }
-    requires ordered { AreByLeft spans.now }
-    requires k_in { k < length spans.now }
+    requires segments { AreSegments points.now list.now segments.now }
+    requires ordered { AreByLeft segments.now }
+    requires k_in { k < length segments.now }
     ensures below { result ≤ least }
-    ensures met { (j : ℕ) → k < j → j < length spans.now → IsUpToCrossing points.now list.now result (span spans.now k) (span spans.now j) }
+    ensures met { (j : ℕ) → k < j → j < length segments.now → IsUpToCrossing points.now list.now result (segment segments.now k) (segment segments.now j) }
 {
-    let span = spans[k];
+    let z = segments[k];
     let mut least = least;
-    for j in k + 1..spans.len() {
-        let next = spans[j];
-        if span.right < next.left {
+    for j in k + 1..segments.len() {
+        let next = segments[j];
+        if z.to.x <= next.from.x {
             return least;
         }
-        least = least_if_crossing(points, list, span, next, least);
+        least = least_if_crossing(points, list, z, next, least);
     }
     least
 }
 
-// Whether the ranges of y of two spans have a number in common.
-fn do_meet_upward(z: Span, w: Span) -> bool
-    ensures { IsFalse result → (z.high <ℤ w.low) ⊎ (w.high <ℤ z.low) }
+fn highest(z: Segment) -> i64
+    ensures { result ≡ int_max z.from.y z.to.y }
 {
-    z.low <= w.high && w.low <= z.high
+    z.from.y.max(z.to.y)
 }
 
-// The least of a position and, where the pairs of two spans cross, the positions of these. A list in which many pairs cross
+fn lowest(z: Segment) -> i64
+    ensures { result ≡ int_min z.from.y z.to.y }
+{
+    z.from.y.min(z.to.y)
+}
+
+// Whether no end of the first segment is above an end of the second.
+fn is_below(z: Segment, w: Segment) -> bool
+    ensures { IsTrue result → IsBelow z w }
+{
+    highest(z) <= lowest(w)
+}
+
+// The least of a position and, where the pairs of two segments cross, the positions of these. A list in which many pairs cross
 // soon has a low position, and few of its pairs are compared then.
-fn least_if_crossing(points: &Points, list: &[Pair], z: Span, w: Span, least: usize) -> usize
+fn least_if_crossing(points: &Points, list: &[Pair], z: Segment, w: Segment, least: u32) -> u32
     requires within { AreWithin points.now list.now }
-    requires z_of { IsSpan points.now list.now z }
-    requires w_of { IsSpan points.now list.now w }
+    requires z_of { IsSegment points.now list.now z }
+    requires w_of { IsSegment points.now list.now w }
     ensures below { result ≤ least }
     ensures met { IsUpToCrossing points.now list.now result z w }
 {
@@ -187,7 +246,10 @@ fn least_if_crossing(points: &Points, list: &[Pair], z: Span, w: Span, least: us
     if least <= earlier {
         return least;
     }
-    if !do_meet_upward(z, w) {
+    if is_below(z, w) {
+        return least;
+    }
+    if is_below(w, z) {
         return least;
     }
     if cross_at(points, list, z.place, w.place) {

@@ -11,7 +11,6 @@ ghost use Rattle.cp_judge.specs.Judgement.{IsJudgement};
 mod answer;
 mod blocks;
 mod border;
-mod bounds;
 mod clear;
 mod crossing;
 mod doubled;

@@ -1,5 +1,10 @@
+ghost use Rattle.std.specs.Prelude.{◌<◌};
+
+mod plain;
+
 use crate::{Judgement, judge};
 use partition_defs::{are_within, is_convex_partition_plain};
+use plain::{first_crossing, plain_judgement};
 use plane::{Pair, Point, Points};
 use std::alloc::Global;
 use std::process::Abort;
@@ -294,21 +299,6 @@ fn mixed(alloc: Global, seed: u32) -> Result<Vec<Pair>, Fail> {
     Ok(pairs)
 }
 
-// The first pairs by position that cross, by the definition.
-fn crossing_plain(points: &Points, list: &[Pair]) -> Option<Judgement> {
-    let count = points.len();
-    for (k, e) in list.iter().enumerate() {
-        let later = list.iter().skip(k);
-        let found = later.copied().find(|f| e.hi() < count
-            && f.hi() < count
-            && points.cross(*e, *f));
-        if let Some(f) = found {
-            return Some(Judgement::Crossing(*e, f));
-        }
-    }
-    None
-}
-
 #[test]
 fn the_first_crossing_is_shown(rt: HostRuntime) -> Result<(), Fail> {
     let mut crossing = 0u32;
@@ -319,7 +309,7 @@ fn the_first_crossing_is_shown(rt: HostRuntime) -> Result<(), Fail> {
         if let Ok(points) = Points::make(made) {
             let mut pairs = mixed(rt.alloc(), seed)?;
             pairs.retain(|e| e.hi() < points.len() && points.is_clear(*e));
-            let plain = crossing_plain(&points, pairs.as_slice());
+            let plain = first_crossing(&points, pairs.as_slice());
             let answer = judged(&points, pairs.as_slice());
             let shown = answer.filter(|j| matches!(j, Judgement::Crossing(_, _)));
             assert_eq!(rt; shown, plain, "at {seed}");
@@ -335,15 +325,68 @@ fn the_first_crossing_is_shown(rt: HostRuntime) -> Result<(), Fail> {
     Ok(())
 }
 
+// A list by the seed: segments that don't cross, the same with a repeat or without the last, or pairs in no order.
+fn listed(points: &Points, alloc: Global, seed: u32) -> Result<Vec<Pair>, Fail> {
+    if seed % 4 == 3 {
+        return mixed(alloc, seed / 4);
+    }
+    let share = if seed % 8 == 0 { 7 } else { 8 };
+    let mut pairs = drawn(points, alloc, seed, share)?;
+    if seed % 4 == 1 {
+        pairs.pop();
+    }
+    if seed % 12 == 2 && !pairs.is_empty() {
+        pairs.push(pairs[pairs.len() / 2])?;
+    }
+    Ok(pairs)
+}
+
+// Which kind of judgement it is.
+fn kind(j: Judgement) -> usize
+    ensures { result < 6 }
+{
+    match j {
+        Judgement::Convex(_) => 0,
+        Judgement::Doubled(_) => 1,
+        Judgement::NotClear(_, _) => 2,
+        Judgement::Crossing(_, _) => 3,
+        Judgement::MissingBorder(_) => 4,
+        Judgement::Unmet(_, _) => 5,
+    }
+}
+
+#[test]
+fn the_old_body_agrees(rt: HostRuntime) -> Result<(), Fail> {
+    let mut seen = [0u32; 6];
+    for seed in 0..400u32 {
+        let made = scattered(rt.alloc(), seed / 4)?;
+        assert!(rt; made.len() < 5001);
+        if let Ok(points) = Points::make(made) {
+            let mut pairs = listed(&points, rt.alloc(), seed)?;
+            pairs.retain(|e| e.hi() < points.len() && (seed % 8 != 3 || points.is_clear(*e)));
+            let plain = plain_judgement(&points, pairs.as_slice());
+            let answer = judged(&points, pairs.as_slice());
+            assert_eq!(rt; answer, Some(plain), "at {seed}");
+            let k = kind(plain);
+            seen[k] = seen[k].saturating_add(1);
+        }
+    }
+    // Each kind comes.
+    assert!(rt; seen.iter().all(|n| *n > 3), "{seen:?}");
+    Ok(())
+}
+
 // As many points as have more pairs than are put in order.
 const MANY: u32 = 210;
 
-// Points of a parabola.
-fn parabola(rt: &impl Abort, alloc: Global) -> Result<Points, Fail> {
+// So many points of a parabola.
+fn parabola(rt: &impl Abort, alloc: Global, count: u32) -> Result<Points, Fail> {
     let mut made = Vec::new(alloc);
-    for i in 0..MANY {
-        let x = i64::from(i);
-        made.push(Point { x, y: x * x })?;
+    for i in 0..count {
+        made.push(Point {
+            x: i64::from(i),
+            y: i64::from(i.saturating_mul(i)),
+        })?;
     }
     assert!(rt; made.len() < 5001);
     Ok(Points::make(made)?)
@@ -363,12 +406,98 @@ fn all_pairs(alloc: Global) -> Result<Vec<Pair>, Fail> {
 
 #[test]
 fn a_long_list_is_judged(rt: HostRuntime) -> Result<(), Fail> {
-    let points = parabola(&rt, rt.alloc())?;
+    let points = parabola(&rt, rt.alloc(), MANY)?;
     let mut pairs = all_pairs(rt.alloc())?;
     let first = Judgement::Crossing(Pair::of(0, 2), Pair::of(1, 3));
     assert_eq!(rt; judged(&points, pairs.as_slice()), Some(first));
     pairs.insert(0, Pair::of(0, 1))?;
     let first = Judgement::Doubled(Pair::of(0, 1));
     assert_eq!(rt; judged(&points, pairs.as_slice()), Some(first));
+    Ok(())
+}
+
+// As many points of a parabola as have ranges that overlap much.
+const FAN: u32 = 800;
+
+// The sides of the polygon of these points, and then its diagonals at the first one.
+fn fan(alloc: Global) -> Result<Vec<Pair>, Fail> {
+    let mut pairs = Vec::new(alloc);
+    for k in 1..FAN {
+        pairs.push(Pair::of(k - 1, k))?;
+    }
+    for k in 2..FAN {
+        pairs.push(Pair::of(0, k))?;
+    }
+    Ok(pairs)
+}
+
+#[test]
+fn a_fan_is_judged_by_blocks(rt: HostRuntime) -> Result<(), Fail> {
+    let points = parabola(&rt, rt.alloc(), FAN)?;
+    let mut pairs = fan(rt.alloc())?;
+    assert_eq!(rt;
+        judged(&points, pairs.as_slice()),
+        Some(Judgement::Convex(1_597))
+    );
+    // The last pair crosses all diagonals but the last two, and the first of them stands first.
+    pairs.push(Pair::of(1, 797))?;
+    let first = Judgement::Crossing(Pair::of(0, 2), Pair::of(1, 797));
+    assert_eq!(rt; judged(&points, pairs.as_slice()), Some(first));
+    pairs.pop();
+    pairs.push(Pair::of(400, 402))?;
+    let first = Judgement::Crossing(Pair::of(0, 401), Pair::of(400, 402));
+    assert_eq!(rt; judged(&points, pairs.as_slice()), Some(first));
+    Ok(())
+}
+
+// A grid with so many points on a side, which fills more than one strip.
+const SIDE: u32 = 20;
+
+fn grid(rt: &impl Abort, alloc: Global) -> Result<Points, Fail> {
+    let mut made = Vec::new(alloc);
+    for k in 0..SIDE * SIDE {
+        made.push(Point {
+            x: i64::from(k / SIDE),
+            y: i64::from(k % SIDE),
+        })?;
+    }
+    assert!(rt; made.len() < 5001);
+    Ok(Points::make(made)?)
+}
+
+// The sides of all squares of the grid.
+fn squares(alloc: Global) -> Result<Vec<Pair>, Fail> {
+    let mut pairs = Vec::new(alloc);
+    for k in 0..SIDE * SIDE {
+        if k % SIDE != 0 {
+            pairs.push(Pair::of(k - 1, k))?;
+        }
+        if k >= SIDE {
+            pairs.push(Pair::of(k - SIDE, k))?;
+        }
+    }
+    Ok(pairs)
+}
+
+#[test]
+fn a_grid_is_judged_by_strips(rt: HostRuntime) -> Result<(), Fail> {
+    let points = grid(&rt, rt.alloc())?;
+    let mut pairs = squares(rt.alloc())?;
+    assert_eq!(rt;
+        judged(&points, pairs.as_slice()),
+        Some(Judgement::Convex(760))
+    );
+    for (i, j, k) in [
+        (0, 2, 1),
+        (20, 60, 40),
+        (0, 399, 21),
+        (19, 380, 38),
+        (358, 396, 377),
+    ] {
+        pairs.push(Pair::of(i, j))?;
+        let first = Judgement::NotClear(Pair::of(i, j), k);
+        assert_eq!(rt; judged(&points, pairs.as_slice()), Some(first));
+        pairs.pop();
+    }
     Ok(())
 }

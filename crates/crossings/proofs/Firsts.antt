@@ -1,6 +1,5 @@
 -- The first pairs of numbers with a relation, as the list of them grows.
-use Rattle.std.proofs.Common.{◌≡◌, refl, ◌⊎◌, inl, inr, ◌<◌, ◌≤◌, ◌+◌, ℕ, List, [], ◌∷◌, ◌++◌, length, Bool, true, false, sym, ◌∙◌, subst, arith, length-append}
-use Rattle.std.proofs.lemmas.Bool.{false≢true}
+use Rattle.std.proofs.Common.{◌≡◌, refl, ◌⊎◌, inl, inr, ◌<◌, ◌≤◌, ◌+◌, ℕ, List, [], ◌∷◌, ◌++◌, length, sym, subst, arith, length-append}
 use Rattle.std.specs.List.{All, Contains}
 use Rattle.std.proofs.lemmas.List.Elements.{All-push, Contains-push, Contains-append_left}
 use Rattle.std.proofs.lemmas.List.Quantifiers.{all_pairs_push}
@@ -9,10 +8,8 @@ use Rattle.plane.specs.declared.segment.Pair.{Pair}
 use Rattle.plane.specs.First.{ComesBefore}
 use Rattle.number_laws.proofs.Naturals.{below_or_last}
 use Rattle.crossings.specs.Crossings.{AreFirstPairs, CrossesLater, DoCrossAt}
-use Rattle.crossings.specs.Segments.{CrossesBefore}
-
-pub refused : (b : Bool) (P : Type 0) → b ≡ false → (P → b ≡ true) → ¬ P
-refused b P e f p = false≢true (sym e ∙ f p)
+use Rattle.crossings.specs.Trying.{CrossesBefore}
+use Rattle.partition_defs.proofs.laws.PairOrder.{next_before, still_before}
 
 pub firsts_none : (R : ℕ → ℕ → Type 0) (most : ℕ) → ((i j : ℕ) → ¬ R i j) → AreFirstPairs R most []
 firsts_none R most none = record {
@@ -61,15 +58,6 @@ firsts_push R Q most list a b room here forth back before h = record {
         subst P (sym e.0) (subst Q (sym e.1) (Contains-push list (a, b))))
   ];
 }
-
--- a pair before a, b + 1 is before a, b, or it is a, b
-next_before : (i j a b : ℕ) → ComesBefore i j a (b + 1) → ComesBefore i j a b ⊎ ((i ≡ a) × (j ≡ b))
-next_before i j a b (inl h) = inl (inl h)
-next_before i j a b (inr h) = elim (below_or_last j b h.1) [ inl l ↦ inl (inr (h.0, l)) | inr e ↦ inr (h.0, e) ]
-
-still_before : (i j a b : ℕ) → ComesBefore i j a b → ComesBefore i j a (b + 1)
-still_before i j a b (inl h) = inl h
-still_before i j a b (inr h) = inr (h.0, (let l = h.1 in omega arith))
 
 before_at : (p q i j a b : ℕ) → ComesBefore p q a b → i ≡ a → j ≡ b → ComesBefore p q i j
 before_at p q i j a b (inl h) e f = inl (omega arith)

@@ -1,3 +1,4 @@
+pub mod laws
 mod Firsts
 mod Placed
 mod Apart

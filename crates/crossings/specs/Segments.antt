@@ -1,17 +1,15 @@
--- For private clauses.
--- The segments of a list in an order in which neighbours lie near each other, in blocks with boxes.
-use Rattle.std.specs.Prelude.{◌≡◌, ℕ, ◌+◌, ◌*◌, ◌<◌, ◌≤◌, ◌⊎◌, List, length, slice_index_or, pos}
+-- The segments of a list in another order, in blocks with boxes. (This project's own.)
+use Rattle.std.specs.Prelude.{◌≡◌, ℕ, ◌+◌, ◌*◌, ◌<◌, ◌≤◌, ◌⊎◌, List, length, slice_index_or, pos, ◌≤ℤ◌}
 use Rattle.std.specs.List.{All, Any}
 use Rattle.plane.specs.declared.coordinates.Point.{Point}
 use Rattle.plane.specs.declared.segment.Pair.{Pair}
-use Rattle.plane.specs.First.{ComesBefore}
 use Rattle.plane.specs.Geometry.{point}
 use Rattle.plane.specs.Accepted.{IsNear}
 use Rattle.boxes.specs.declared.bounds.Bounds.{Bounds}
 use Rattle.boxes.specs.Bounds.{IsWithin, HasNearCorners}
 use Rattle.crossings.specs.declared.segments.Segment.{Segment}
 use Rattle.crossings.specs.declared.blocks.Block.{Block}
-use Rattle.crossings.specs.Crossings.{IsPairAt, CrossesLater}
+use Rattle.crossings.specs.Crossings.{IsPairAt}
 
 -- the point with both coordinates 0
 abbrev pub origin : Point
@@ -25,9 +23,9 @@ segment Z k = slice_index_or Z k (record { from = origin; to = origin; place = 0
 abbrev pub AreEndsOf : List Point → Pair → (p q : Point) → Type 0
 AreEndsOf S e p q = ((p ≡ point S e.lo) × (q ≡ point S e.hi)) ⊎ ((p ≡ point S e.hi) × (q ≡ point S e.lo))
 
--- z has the ends of the pair at its place
+-- z has the ends of the pair at its place, the second one not left of the first
 abbrev pub IsSegment : List Point → List Pair → Segment → Type 0
-IsSegment S K z = (e : Pair) × IsPairAt K z.place e × AreEndsOf S e z.from z.to × IsNear z.from × IsNear z.to
+IsSegment S K z = (e : Pair) × IsPairAt K z.place e × AreEndsOf S e z.from z.to × IsNear z.from × IsNear z.to × (z.from.x ≤ℤ z.to.x)
 
 -- Z has the segments of all pairs of K, and no others
 pub record AreSegments (S : List Point) (K : List Pair) (Z : List Segment) : Type 0 where
@@ -53,33 +51,23 @@ nowhere = record { from = spot; to = spot; both = spot }
 abbrev pub block : List Block → ℕ → Block
 block B i = slice_index_or B i nowhere
 
--- k is an index of block i, of 32 indices
-abbrev pub IsInBlock : (i k : ℕ) → Type 0
-IsInBlock i k = (32 * i ≤ k) × (k < 32 * i + 32)
+-- k is an index of block i, where each has this many indices
+abbrev pub IsInBlock : (size i k : ℕ) → Type 0
+IsInBlock size i k = (size * i ≤ k) × (k < size * i + size)
 
 -- the boxes of block i have the ends of each segment of the block
-abbrev pub IsBounded : List Segment → List Block → ℕ → Type 0
-IsBounded Z B i = (k : ℕ) → IsInBlock i k → k < length Z → HasSegment (block B i) (segment Z k)
+abbrev pub IsBounded : ℕ → List Segment → List Block → ℕ → Type 0
+IsBounded size Z B i = (k : ℕ) → IsInBlock size i k → k < length Z → HasSegment (block B i) (segment Z k)
 
 -- all boxes are within the limit, and those of the first n blocks have the ends of their segments
-pub record AreBoundedBelow (Z : List Segment) (B : List Block) (n : ℕ) : Type 0 where
+pub record AreBoundedBelow (size : ℕ) (Z : List Segment) (B : List Block) (n : ℕ) : Type 0 where
   pub near : (i : ℕ) → i < length B → HasNearBoxes (block B i)
-  pub bounded : (i : ℕ) → i < n → IsBounded Z B i
+  pub bounded : (i : ℕ) → i < n → IsBounded size Z B i
 
--- Z has the segments of K, in blocks with boxes B
-pub record AreInBlocks (S : List Point) (K : List Pair) (Z : List Segment) (B : List Block) : Type 0 where
+-- Z has the segments of K, in blocks of 16 with boxes B, and in groups of 256 with boxes G
+pub record AreInBlocks (S : List Point) (K : List Pair) (Z : List Segment) (B G : List Block) : Type 0 where
   pub segments : AreSegments S K Z
-  pub room : length Z ≤ 32 * length B
-  pub boxes : AreBoundedBelow Z B (length B)
-
--- both ends of each segment are within the limit
-abbrev pub AreNearSegments : List Segment → Type 0
-AreNearSegments Z = (k : ℕ) → k < length Z → IsNear (segment Z k).from × IsNear (segment Z k).to
-
--- the pair at position a crosses none of the later ones whose segments have an index for which H holds
-abbrev pub CrossesNone : (ℕ → Type 0) → List Point → List Pair → List Segment → ℕ → Type 0
-CrossesNone H S K Z a = (k : ℕ) → H k → k < length Z → ¬ CrossesLater S K a (segment Z k).place
-
--- the segment at position i crosses that at the later position j, and i, j comes before a, b
-abbrev pub CrossesBefore : List Point → List Pair → (a b : ℕ) → (i j : ℕ) → Type 0
-CrossesBefore S K a b i j = ComesBefore i j a b × CrossesLater S K i j
+  pub room : length Z ≤ 16 * length B
+  pub boxes : AreBoundedBelow 16 Z B (length B)
+  pub group_room : length Z ≤ 256 * length G
+  pub group_boxes : AreBoundedBelow 256 Z G (length G)

@@ -1,5 +1,5 @@
-// Blocks of segments that lie near each other, with boxes round their first ends, round their other ends, and round all.
-// Whether some segment of a block crosses another one is asked of the boxes first.
+// Blocks of segments that lie near each other and groups of blocks, with boxes round their first ends, round their other ends,
+// and round all. Whether some segment of a group or a block crosses another one is asked of the boxes first.
 ghost use Rattle.std.specs.Prelude.{◌≡◌, ◌+◌, ◌*◌, ◌<◌, ◌≤◌, ◌^◌, ◌↔◌, ℕ, length, IsTrue, IsFalse};
 ghost use Rattle.plane.specs.Geometry.{DoCross};
 ghost use Rattle.plane.specs.Accepted.{IsNear};
@@ -7,16 +7,23 @@ ghost use Rattle.partition_defs.specs.Partition.{AreWithin};
 ghost use Rattle.crossings.specs.declared.segments.Segment.{Segment};
 ghost use Rattle.crossings.specs.Crossings.{DoCrossAt, CrossesLater};
 ghost use Rattle.crossings.specs.Segments.{segment, block, IsSegment, AreSegments, HasNearBoxes};
-ghost use Rattle.crossings.specs.Segments.{HasSegment, AreNearSegments, IsInBlock, AreBoundedBelow, AreInBlocks, CrossesNone};
+ghost use Rattle.crossings.specs.Segments.{HasSegment, IsInBlock, AreBoundedBelow, AreInBlocks};
+ghost use Rattle.crossings.specs.Trying.{AreNearSegments, CrossesNone, HaveCommonEnd};
 
 use crate::segments::{Segment, set_segments};
 use boxes::Bounds;
 use plane::{Pair, Point, Points};
 
-// How many segments a block has.
-pub const BLOCK: usize = 32;
+/// How many segments a block has.
+pub const BLOCK: usize = 16;
 
-// The boxes of a block.
+/// How many segments a group of blocks has.
+pub const GROUP: usize = 256;
+
+// How many blocks a group has.
+const GROUP_BLOCKS: usize = 16;
+
+/// The boxes of a block or of a group: round the first ends of its segments, round their other ends, and round both.
 #[derive(Clone, Copy)]
 pub struct Block {
     pub from: Bounds,
@@ -25,7 +32,7 @@ pub struct Block {
 }
 
 impl Block {
-    // The block of one segment.
+    /// The block of one segment.
     pub fn around(z: Segment) -> Block
         requires near_from { IsNear z.from }
         requires near_to { IsNear z.to }
@@ -91,57 +98,73 @@ impl Block {
     }
 }
 
-// The boxes of a block.
-fn block_of(segments: &[Segment], i: usize) -> Block
+// The boxes round as many segments as a block has, from an index on.
+fn block_of(segments: &[Segment], from: usize, size: usize) -> Block
     requires near { AreNearSegments segments.now }
-    requires some { 32 * i < length segments.now }
+    requires some { from < length segments.now }
     ensures near { HasNearBoxes result }
-    ensures has { (k : ℕ) → IsInBlock i k → k < length segments.now → HasSegment result (segment segments.now k) }
+    ensures has { (k : ℕ) → from ≤ k → k < from + size → k < length segments.now → HasSegment result (segment segments.now k) }
 {
-    let from = i * BLOCK;
     let mut block = Block::around(segments[from]);
-    for k in from..segments.len().min(from.saturating_add(BLOCK)) {
+    for k in from..segments.len().min(from.saturating_add(size)) {
         block = block.with(segments[k]);
     }
     block
 }
 
-// Puts the boxes round each block of segments.
-fn bound_blocks(segments: &[Segment], blocks: &mut [Block])
+// Puts the boxes round each block of so many segments.
+fn bound_blocks(segments: &[Segment], blocks: &mut [Block], size: usize)
     requires near { AreNearSegments segments.now }
-    requires few { length blocks.old < 2 ^ 32 }
     requires near_blocks { (i : ℕ) → i < length blocks.old → HasNearBoxes (block blocks.old i) }
-    ensures { AreBoundedBelow segments.now blocks.new (length blocks.new) }
+    ensures { AreBoundedBelow size segments.now blocks.new (length blocks.new) }
 {
     for i in 0..blocks.len() {
-        if i * BLOCK < segments.len() {
-            blocks[i] = block_of(segments, i);
+        let from = i.saturating_mul(size);
+        if from < segments.len() {
+            blocks[i] = block_of(segments, from, size);
         }
     }
 }
 
-// Puts the segments of a list into blocks. It needs as much room as there are pairs, and a block for each 32 of them.
-pub fn set_blocks(points: &Points, list: &[Pair], segments: &mut [Segment], blocks: &mut [Block])
+/// Puts the segments of a list into blocks and groups of neighbours, with boxes. It needs as much room as there are pairs, a
+/// block for each `BLOCK` of them, and a group for each `GROUP`.
+pub fn set_blocks(
+    points: &Points,
+    list: &[Pair],
+    segments: &mut [Segment],
+    blocks: &mut [Block],
+    groups: &mut [Block],
+)
     requires within { AreWithin points.now list.now }
     requires count { length list.now < 2 ^ 32 }
     requires room { length segments.old ≡ length list.now }
-    requires few { length blocks.old < 2 ^ 32 }
-    requires enough { length list.now ≤ 32 * length blocks.old }
+    requires enough { length list.now ≤ 16 * length blocks.old }
+    requires enough_groups { length list.now ≤ 256 * length groups.old }
     requires near_blocks { (i : ℕ) → i < length blocks.old → HasNearBoxes (block blocks.old i) }
-    ensures { AreInBlocks points.now list.now segments.new blocks.new }
+    requires near_groups { (i : ℕ) → i < length groups.old → HasNearBoxes (block groups.old i) }
+    ensures { AreInBlocks points.now list.now segments.new blocks.new groups.new }
 {
     set_segments(points, list, segments);
-    bound_blocks(segments, blocks);
+    bound_blocks(segments, blocks, BLOCK);
+    bound_blocks(segments, groups, GROUP);
 }
 
-// Whether the segments at two positions cross.
+/// Whether the segments at two positions cross. (Textbook.)
 pub fn cross_at(points: &Points, list: &[Pair], a: u32, b: u32) -> bool
     requires within { AreWithin points.now list.now }
     requires a_in { a < length list.now }
     requires b_in { b < length list.now }
     ensures { IsTrue result ↔ DoCrossAt points.now list.now a b }
 {
-    points.cross(list[a as usize], list[b as usize])
+    let (e, f) = (list[a as usize], list[b as usize]);
+    !have_common_end(e, f) && points.cross(e, f)
+}
+
+// Whether two pairs have an end in common. Such pairs don't cross.
+fn have_common_end(e: Pair, f: Pair) -> bool
+    ensures { IsTrue result → HaveCommonEnd e f }
+{
+    e.lo() == f.lo() || e.lo() == f.hi() || e.hi() == f.lo() || e.hi() == f.hi()
 }
 
 // Whether the pair at position a crosses a later one whose segment is in a block.
@@ -150,7 +173,7 @@ fn crosses_in_block(points: &Points, list: &[Pair], segments: &[Segment], i: usi
     requires segments { AreSegments points.now list.now segments.now }
     requires few { i < 2 ^ 32 }
     requires a_in { a < length list.now }
-    ensures { IsFalse result → CrossesNone (IsInBlock i) points.now list.now segments.now a }
+    ensures { IsFalse result → CrossesNone (IsInBlock 16 i) points.now list.now segments.now a }
 {
     let from = i * BLOCK;
     for k in from..segments.len().min(from + BLOCK) {
@@ -172,31 +195,82 @@ fn may_cross_block(
     z: Segment,
 ) -> bool
     requires within { AreWithin points.now list.now }
-    requires in_blocks { AreInBlocks points.now list.now segments.now blocks.now }
-    requires few { length blocks.now < 2 ^ 32 }
+    requires segments { AreSegments points.now list.now segments.now }
+    requires boxes { AreBoundedBelow 16 segments.now blocks.now (length blocks.now) }
+    requires few { i < 2 ^ 32 }
     requires i_in { i < length blocks.now }
     requires z_of { IsSegment points.now list.now z }
-    ensures { IsFalse result → CrossesNone (IsInBlock i) points.now list.now segments.now z.place }
+    ensures { IsFalse result → CrossesNone (IsInBlock 16 i) points.now list.now segments.now z.place }
 {
     !blocks[i].is_beside(z.from, z.to) && crosses_in_block(points, list, segments, i, z.place)
 }
 
-// Whether the pair of a segment crosses a later one.
+// The same of the blocks of a group.
+fn may_cross_blocks(
+    points: &Points,
+    list: &[Pair],
+    segments: &[Segment],
+    blocks: &[Block],
+    g: usize,
+    z: Segment,
+) -> bool
+    requires within { AreWithin points.now list.now }
+    requires segments { AreSegments points.now list.now segments.now }
+    requires boxes { AreBoundedBelow 16 segments.now blocks.now (length blocks.now) }
+    requires room { length segments.now ≤ 16 * length blocks.now }
+    requires few { length blocks.now < 2 ^ 32 }
+    requires g_few { g < 2 ^ 32 }
+    requires z_of { IsSegment points.now list.now z }
+    ensures { IsFalse result → CrossesNone (IsInBlock 256 g) points.now list.now segments.now z.place }
+{
+    let from = g * GROUP_BLOCKS;
+    for i in from..blocks.len().min(from + GROUP_BLOCKS) {
+        if may_cross_block(points, list, segments, blocks, i, z) {
+            return true;
+        }
+    }
+    false
+}
+
+// The same, with a look at the group's boxes first.
+fn may_cross_group(
+    points: &Points,
+    list: &[Pair],
+    segments: &[Segment],
+    blocks: &[Block],
+    groups: &[Block],
+    g: usize,
+    z: Segment,
+) -> bool
+    requires within { AreWithin points.now list.now }
+    requires in_blocks { AreInBlocks points.now list.now segments.now blocks.now groups.now }
+    requires few { length blocks.now < 2 ^ 32 }
+    requires g_few { g < 2 ^ 32 }
+    requires g_in { g < length groups.now }
+    requires z_of { IsSegment points.now list.now z }
+    ensures { IsFalse result → CrossesNone (IsInBlock 256 g) points.now list.now segments.now z.place }
+{
+    !groups[g].is_beside(z.from, z.to) && may_cross_blocks(points, list, segments, blocks, g, z)
+}
+
+/// Whether the pair of this segment crosses a later one, by the boxes of groups and blocks first. Where it says no, none does.
 pub fn may_cross(
     points: &Points,
     list: &[Pair],
     segments: &[Segment],
     blocks: &[Block],
+    groups: &[Block],
     z: Segment,
 ) -> bool
     requires within { AreWithin points.now list.now }
-    requires in_blocks { AreInBlocks points.now list.now segments.now blocks.now }
+    requires in_blocks { AreInBlocks points.now list.now segments.now blocks.now groups.now }
     requires few { length blocks.now < 2 ^ 32 }
+    requires few_groups { length groups.now < 2 ^ 32 }
     requires z_of { IsSegment points.now list.now z }
     ensures { IsFalse result → (b : ℕ) → ¬ CrossesLater points.now list.now z.place b }
 {
-    for i in 0..blocks.len() {
-        if may_cross_block(points, list, segments, blocks, i, z) {
+    for g in 0..groups.len() {
+        if may_cross_group(points, list, segments, blocks, groups, g, z) {
             return true;
         }
     }

@@ -1,10 +1,11 @@
 // The crossing positions of a list, in order.
-ghost use Rattle.std.specs.Prelude.{◌≡◌, ◌+◌, ◌<◌, ◌^◌, length, IfOk, OnOk};
+ghost use Rattle.std.specs.Prelude.{◌≡◌, ℕ, ◌+◌, ◌*◌, ◌<◌, ◌≤◌, ◌^◌, length, IfOk, OnOk};
 ghost use Rattle.partition_defs.specs.Partition.{AreWithin};
 ghost use Rattle.crossings.specs.Crossings.{AreFirstPairs, CrossesLater};
-ghost use Rattle.crossings.specs.Segments.{CrossesBefore, AreInBlocks};
+ghost use Rattle.crossings.specs.Segments.{block, HasNearBoxes, AreInBlocks};
+ghost use Rattle.crossings.specs.Trying.{CrossesBefore};
 
-use crate::blocks::{BLOCK, Block, cross_at, may_cross, set_blocks};
+use crate::blocks::{BLOCK, Block, GROUP, cross_at, may_cross, set_blocks};
 use crate::segments::{Segment, segment_of};
 use mcp_outside::NoMemory;
 use plane::{Pair, Points};
@@ -61,14 +62,16 @@ fn add_from(
     list: &[Pair],
     segments: &[Segment],
     blocks: &[Block],
+    groups: &[Block],
     a: u32,
     most: u32,
     found: &mut Vec<(u32, u32)>,
 ) -> Result<(), NoMemory>
     requires within { AreWithin points.now list.now }
     requires count { length list.now < 2 ^ 32 }
-    requires in_blocks { AreInBlocks points.now list.now segments.now blocks.now }
+    requires in_blocks { AreInBlocks points.now list.now segments.now blocks.now groups.now }
     requires few { length blocks.now < 2 ^ 32 }
+    requires few_groups { length groups.now < 2 ^ 32 }
     requires a_in { a < length list.now }
     requires so_far { AreFirstPairs (CrossesBefore points.now list.now a 0) most found.old.items }
     ensures { OnOk result (AreFirstPairs (CrossesBefore points.now list.now (a + 1) 0) most found.new.items) }
@@ -77,7 +80,7 @@ fn add_from(
         return Ok(());
     }
     let z = segment_of(points, list[a as usize], a);
-    if !may_cross(points, list, segments, blocks, z) {
+    if !may_cross(points, list, segments, blocks, groups, z) {
         return Ok(());
     }
     add_crossed(points, list, a, most, found)
@@ -90,19 +93,46 @@ fn list_crossings(
     list: &[Pair],
     segments: &[Segment],
     blocks: &[Block],
+    groups: &[Block],
     most: u32,
 ) -> Result<Vec<(u32, u32)>, NoMemory>
     requires within { AreWithin points.now list.now }
     requires count { length list.now < 2 ^ 32 }
-    requires in_blocks { AreInBlocks points.now list.now segments.now blocks.now }
+    requires in_blocks { AreInBlocks points.now list.now segments.now blocks.now groups.now }
     requires few { length blocks.now < 2 ^ 32 }
+    requires few_groups { length groups.now < 2 ^ 32 }
     ensures { IfOk result (λ found. AreFirstPairs (CrossesLater points.now list.now) most found.items) }
 {
     let mut found = Vec::new(alloc);
     for a in 0..list.len() as u32 {
-        add_from(points, list, segments, blocks, a, most, &mut found)?;
+        add_from(points, list, segments, blocks, groups, a, most, &mut found)?;
     }
     Ok(found)
+}
+
+// The same, with room for the segments, the blocks and the groups.
+fn list_within(
+    alloc: Global,
+    points: &Points,
+    list: &[Pair],
+    segments: &mut [Segment],
+    blocks: &mut [Block],
+    groups: &mut [Block],
+    most: u32,
+) -> Result<Vec<(u32, u32)>, NoMemory>
+    requires within { AreWithin points.now list.now }
+    requires count { length list.now < 2 ^ 32 }
+    requires room { length segments.old ≡ length list.now }
+    requires few { length blocks.old < 2 ^ 32 }
+    requires few_groups { length groups.old < 2 ^ 32 }
+    requires enough { length list.now ≤ 16 * length blocks.old }
+    requires enough_groups { length list.now ≤ 256 * length groups.old }
+    requires near_blocks { (i : ℕ) → i < length blocks.old → HasNearBoxes (block blocks.old i) }
+    requires near_groups { (i : ℕ) → i < length groups.old → HasNearBoxes (block groups.old i) }
+    ensures { IfOk result (λ found. AreFirstPairs (CrossesLater points.now list.now) most found.items) }
+{
+    set_blocks(points, list, segments, blocks, groups);
+    list_crossings(alloc, points, list, segments, blocks, groups, most)
 }
 
 /// The positions (a, b), a before b, of the segments of a list that cross, by a and then b: all of them, or the first `most`.
@@ -120,13 +150,14 @@ pub fn crossing_pairs(
 {
     let mut segments = vec![in alloc; Segment::nowhere(); list.len()]?;
     let mut blocks = vec![in alloc; Block::around(Segment::nowhere()); list.len() / BLOCK + 1]?;
-    set_blocks(points, list, segments.as_mut_slice(), blocks.as_mut_slice());
-    list_crossings(
+    let mut groups = vec![in alloc; Block::around(Segment::nowhere()); list.len() / GROUP + 1]?;
+    list_within(
         alloc,
         points,
         list,
-        segments.as_slice(),
-        blocks.as_slice(),
+        segments.as_mut_slice(),
+        blocks.as_mut_slice(),
+        groups.as_mut_slice(),
         most,
     )
 }

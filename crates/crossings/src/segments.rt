@@ -1,5 +1,5 @@
 // The segments of a list by their ends, in an order in which neighbours lie near each other.
-ghost use Rattle.std.specs.Prelude.{◌≡◌, ◌<◌, ◌^◌, length};
+ghost use Rattle.std.specs.Prelude.{◌≡◌, ◌<◌, ◌^◌, length, IsTrue, IsFalse, ◌≤ℤ◌};
 ghost use Rattle.std.specs.List.Sorted.{IsPermutation};
 ghost use Rattle.plane.specs.Accepted.{IsNear};
 ghost use Rattle.partition_defs.specs.Partition.{AreWithin};
@@ -7,7 +7,11 @@ ghost use Rattle.crossings.specs.Segments.{AreSegments, AreEndsOf};
 
 use plane::{Pair, Point, Points};
 
-// A segment by its ends, and the position at which its pair stands.
+// How many segments a strip has.
+const STRIP: usize = 64;
+
+/// A segment by its ends, and the position at which its pair stands. The first end is left of the other, or below it where both
+/// have one x.
 #[derive(Clone, Copy)]
 pub struct Segment {
     pub from: Point,
@@ -16,7 +20,7 @@ pub struct Segment {
 }
 
 impl Segment {
-    // A segment of no length, which fills room.
+    /// A segment of no length, which fills room.
     pub fn nowhere() -> Segment
         ensures near_from { IsNear result.from }
         ensures near_to { IsNear result.to }
@@ -35,72 +39,27 @@ impl Segment {
         across.saturating_add(self.from.y.abs_diff(self.to.y))
     }
 
-    // The place in the order: long segments apart from short ones, and within a class of lengths by the middle's place on a
-    // curve that keeps neighbours together. (Textbook: the order by G. M. Morton.)
-    fn key(&self, extent: Extent) -> u64 {
-        let class = u64::from(64 - self.span().leading_zeros()) / 3;
-        let x = extent.share(extent.low.x, self.from.x, self.to.x);
-        let y = extent.share(extent.low.y, self.from.y, self.to.y);
-        class << 58 | spread(x) | spread(y) << 1
-    }
-}
-
-// The least coordinates of some points, and by how many bits the distances to them are cut to have few.
-#[derive(Clone, Copy)]
-struct Extent {
-    low: Point,
-    cut: u32,
-    ghost few: { cut < 64 },
-}
-
-impl Extent {
-    // How far the middle of two numbers is from the least, in few bits.
-    fn share(&self, low: i64, a: i64, b: i64) -> u64 {
-        let cut = self.cut;
-        (a.abs_diff(low) >> cut).saturating_add(b.abs_diff(low) >> cut)
-    }
-}
-
-// The last 28 bits of a number, with a place left free before each.
-fn spread(n: u64) -> u64 {
-    let n = n & 0x0FFF_FFFF;
-    let n = (n | n << 16) & 0x0000_FFFF_0000_FFFF;
-    let n = (n | n << 8) & 0x00FF_00FF_00FF_00FF;
-    let n = (n | n << 4) & 0x0F0F_0F0F_0F0F_0F0F;
-    let n = (n | n << 2) & 0x3333_3333_3333_3333;
-    (n | n << 1) & 0x5555_5555_5555_5555
-}
-
-fn extent_of(segments: &[Segment]) -> Extent
-    requires { 0 < length segments.now }
-{
-    let first = segments[0].from;
-    let (mut left, mut right) = (first.x, first.x);
-    let (mut low, mut high) = (first.y, first.y);
-    for z in segments {
-        left = left.min(z.from.x).min(z.to.x);
-        right = right.max(z.from.x).max(z.to.x);
-        low = low.min(z.from.y).min(z.to.y);
-        high = high.max(z.from.y).max(z.to.y);
-    }
-    let longest = right.abs_diff(left).max(high.abs_diff(low));
-    Extent {
-        low: Point { x: left, y: low },
-        cut: 37u32.saturating_sub(longest.leading_zeros()),
+    // The class of its length, and how far left it begins.
+    fn key(&self) -> (u32, i64) {
+        ((64 - self.span().leading_zeros()) / 3, self.from.x)
     }
 }
 
 // Whether the first point is left of the second, or below it.
-fn is_first(p: Point, q: Point) -> bool {
+fn is_first(p: Point, q: Point) -> bool
+    ensures first { IsTrue result → p.x ≤ℤ q.x }
+    ensures second { IsFalse result → q.x ≤ℤ p.x }
+{
     p.x < q.x || (p.x == q.x && p.y < q.y)
 }
 
-// The segment of a pair that stands at a position.
+/// The segment of a pair that stands at a position.
 pub fn segment_of(points: &Points, e: Pair, place: u32) -> Segment
     requires { e.hi < length points.now }
     ensures ends { AreEndsOf points.now e result.from result.to }
     ensures near_from { IsNear result.from }
     ensures near_to { IsNear result.to }
+    ensures forward { result.from.x ≤ℤ result.to.x }
     ensures place { result.place ≡ place }
 {
     let (p, q) = (points.at(e.lo()), points.at(e.hi()));
@@ -119,8 +78,8 @@ pub fn segment_of(points: &Points, e: Pair, place: u32) -> Segment
     }
 }
 
-// Puts the segment of each pair at the pair's position.
-fn copy_segments(points: &Points, list: &[Pair], segments: &mut [Segment])
+/// Puts the segment of each pair at the pair's position.
+pub fn copy_segments(points: &Points, list: &[Pair], segments: &mut [Segment])
     requires within { AreWithin points.now list.now }
     requires count { length list.now < 2 ^ 32 }
     requires room { length segments.old ≡ length list.now }
@@ -131,15 +90,25 @@ fn copy_segments(points: &Points, list: &[Pair], segments: &mut [Segment])
     }
 }
 
-// Puts segments into an order in which neighbours mostly lie near each other.
+// Puts segments into an order in which neighbours mostly lie near each other: long ones apart from short ones, those of a
+// class in strips by their left ends, and those of a strip upward.
 fn arrange(segments: &mut [Segment])
     ensures { IsPermutation segments.old segments.new }
 {
-    if segments.is_empty() {
-        return;
+    segments.sort_unstable_by_key(|z| z.key());
+    for i in 0..segments.len() / STRIP + 1 {
+        arrange_strip(segments, i * STRIP);
     }
-    let extent = extent_of(segments);
-    segments.sort_unstable_by_key(|z| z.key(extent));
+}
+
+// Puts the segments of the strip that begins here in order.
+fn arrange_strip(segments: &mut [Segment], from: usize)
+    ensures { IsPermutation segments.old segments.new }
+{
+    let to = segments.len().min(from.saturating_add(STRIP));
+    if from < to {
+        segments[from..to].sort_unstable_by_key(|z| (z.from.y, z.to.y));
+    }
 }
 
 // Puts the segments of a list in order. It needs as much room as there are pairs.

@@ -106,6 +106,7 @@ fn agree_on(rt: &impl Abort, alloc: Global, points: &Points) -> Result<(), Fail>
         (6, 33),
         (7, 65),
         (8, 140),
+        (9, 600),
     ] {
         let list = segments_of(alloc, seed, points.len(), count)?;
         agree(rt, alloc, points, list.as_slice())?;

@@ -11,6 +11,7 @@ use Rattle.plane.specs.Geometry.{IsClear}
 use Rattle.plane.proofs.laws.Pairs.{pair_same}
 use Rattle.directions.specs.Fans.{AreAllClear}
 use Rattle.directions.specs.Listing.{AreClearBefore}
+use Rattle.partition_defs.proofs.laws.PairOrder.{next_before, still_before}
 
 -- the same list, where no clear pair comes between
 before_same : (S : List Point) (a b c d : ℕ) (list : List Pair) → ((e : Pair) → ComesBefore e.lo e.hi a b → ComesBefore e.lo e.hi c d)
@@ -20,14 +21,6 @@ before_same S a b c d list forth back h = record {
   clear = λ e m. (let x = h.clear e m in (x.0, x.1, forth e x.2));
   all = λ e en clear before. h.all e en clear (back e en clear before);
 }
-
-next_before : (i j a b : ℕ) → ComesBefore i j a (b + 1) → ComesBefore i j a b ⊎ ((i ≡ a) × (j ≡ b))
-next_before i j a b (inl h) = inl (inl h)
-next_before i j a b (inr h) = elim (below_or_last j b h.1) [ inl l ↦ inl (inr (h.0, l)) | inr e ↦ inr (h.0, e) ]
-
-still_before : (i j a b : ℕ) → ComesBefore i j a b → ComesBefore i j a (b + 1)
-still_before i j a b (inl h) = inl h
-still_before i j a b (inr h) = inr (h.0, (let l = h.1 in omega arith))
 
 pub passed : (S : List Point) (a b : ℕ) (list : List Pair) → ¬ IsClear S a b → AreClearBefore S a b list → AreClearBefore S a (b + 1) list
 passed S a b list none = before_same S a b a (b + 1) list (λ e. still_before e.lo e.hi a b)

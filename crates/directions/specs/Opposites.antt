@@ -1,7 +1,6 @@
 -- For private clauses.
--- Points whose lines through a centre have keys in one bucket.
-use Rattle.std.specs.Prelude.{◌≡◌, ◌≢◌, ℕ, ◌<◌, ◌≤◌, ◌%◌, List, length, set, slice_index, nat_eq, Bool, true, false, Option, Some, None}
-use Rattle.std.specs.List.{AllPairs, Contains}
+-- Points in buckets by the keys of their lines through a centre.
+use Rattle.std.specs.Prelude.{◌≡◌, ◌≢◌, ℕ, ◌+◌, ◌<◌, ◌≤◌, ◌%◌, List, length, slice_index, Option, Some, None}
 use Rattle.plane.specs.declared.coordinates.Point.{Point}
 use Rattle.plane.specs.Geometry.{IsBetween}
 use Rattle.directions.specs.Key.{line_key}
@@ -10,50 +9,31 @@ use Rattle.directions.specs.Key.{line_key}
 abbrev pub number : List ℕ → ℕ → ℕ
 number list k = slice_index list k
 
--- there are so many marks, and all are 0
+-- there are so many buckets, and none has a point
 abbrev pub AreClear : List ℕ → ℕ → Type 0
-AreClear marks n = (length marks ≡ n) × ((b : ℕ) → number marks b ≡ 0)
-
--- the mark of a bucket rises from 0 to 1, and to 2 at most
-abbrev pub mark_after : Bool → ℕ
-mark_after true = 1
-mark_after false = 2
-
-abbrev pub IsBumped : List ℕ → ℕ → List ℕ → Type 0
-IsBumped old b new = new ≡ set old b (mark_after (nat_eq (number old b) 0))
+AreClear heads n = (length heads ≡ n) × ((b : ℕ) → b < n → number heads b ≡ 65535)
 
 -- the bucket of the line through p and q
 abbrev pub bucket : List Point → (p q : ℕ) → ℕ
-bucket S p q = line_key S p q % 131071
+bucket S p q = line_key S p q % 16384
 
--- the keys of the points below k other than p
-pub record AreKeys (S : List Point) (p k : ℕ) (keys : List ℕ) : Type 0 where
-  pub count : length keys ≡ length S
-  pub each : (q : ℕ) → q < k → q ≢ p → number keys q ≡ line_key S p q
+-- x is the first point from this index on, other than p, in the bucket, or no point where there is none
+abbrev pub IsFirstIn : List Point → (p b from x : ℕ) → Type 0
+IsFirstIn S p b from x =
+    ((q : ℕ) → from ≤ q → q < x → q < length S → q ≢ p → bucket S p q ≢ b) × (x < length S → (from ≤ x) × (x ≢ p) × (bucket S p x ≡ b))
 
--- the keys, and the marks of their buckets
-pub record AreMarked (S : List Point) (p k : ℕ) (keys marks : List ℕ) : Type 0 where
-  pub keys_are : AreKeys S p k keys
-  pub room : length marks ≡ 131071
-  pub one : (q : ℕ) → q < k → q ≢ p → 1 ≤ number marks (bucket S p q)
-  pub two : (q r : ℕ) → q < r → r < k → q ≢ p → r ≢ p → bucket S p q ≡ bucket S p r → 2 ≤ number marks (bucket S p q)
-  pub most : (b : ℕ) → number marks b ≤ 2
+-- for each point from k on, other than p, the next one in its bucket
+pub record AreFollowed (S : List Point) (p k : ℕ) (next : List ℕ) : Type 0 where
+  pub count : length next ≡ length S
+  pub each : (q : ℕ) → k ≤ q → q < length S → q ≢ p → IsFirstIn S p (bucket S p q) (q + 1) (number next q)
 
--- the points below k whose buckets are marked with 2, ascending
-pub record IsGathered (S : List Point) (p k : ℕ) (marks shared : List ℕ) : Type 0 where
-  pub ascending : AllPairs (λ q r. q < r) shared
-  pub within : (q : ℕ) → Contains shared q → (q < k) × (q ≢ p)
-  pub all : (q : ℕ) → q < k → q ≢ p → 2 ≤ number marks (bucket S p q) → Contains shared q
+-- the points from k on, other than p, are in their buckets
+pub record AreLinked (S : List Point) (p k : ℕ) (heads next : List ℕ) : Type 0 where
+  pub room : length heads ≡ 16384
+  pub firsts : (b : ℕ) → b < 16384 → IsFirstIn S p b k (number heads b)
+  pub follow : AreFollowed S p k next
 
--- an ascending list of points that has each two whose lines have one key
-pub record HasShared (S : List Point) (p : ℕ) (shared : List ℕ) : Type 0 where
-  pub ascending : AllPairs (λ q r. q < r) shared
-  pub within : (q : ℕ) → Contains shared q → (q < length S) × (q ≢ p)
-  pub both : (q r : ℕ) → q < r → r < length S → q ≢ p → r ≢ p → line_key S p q ≡ line_key S p r → Contains shared q × Contains shared r
-
--- the first of the points at positions from a + 1 to n that lies opposite to that at a, or none
-abbrev pub IsFirstOpposite : List Point → (p : ℕ) → List ℕ → (a n : ℕ) → Option ℕ → Type 0
-IsFirstOpposite S p shared a n None = (b : ℕ) → a < b → b < n → ¬ IsBetween S p (number shared a) (number shared b)
-IsFirstOpposite S p shared a n (Some r) =
-    (b : ℕ) × (a < b) × (b < length shared) × (r ≡ number shared b) × IsBetween S p (number shared a) r
-    × ((i : ℕ) → a < i → i < b → ¬ IsBetween S p (number shared a) (number shared i))
+-- the first point after q that lies opposite to it, seen from p, or none
+abbrev pub IsFirstOpposite : List Point → (p q : ℕ) → Option ℕ → Type 0
+IsFirstOpposite S p q None = (r : ℕ) → q < r → r < length S → ¬ IsBetween S p q r
+IsFirstOpposite S p q (Some r) = (q < r) × (r < length S) × IsBetween S p q r × ((s : ℕ) → q < s → s < r → ¬ IsBetween S p q s)

@@ -1,9 +1,8 @@
-// The first two points that a point is strictly between. Only points whose lines share a key's bucket with another one are
-// tried.
-ghost use Rattle.std.specs.Prelude.{◌≡◌, ◌≢◌, ◌<◌, ◌≤◌, ◌%◌, ℕ, length, set, IfOk, OnOk, vec_len};
+// The first two points that a point is strictly between. Only points whose lines have keys in one bucket are tried.
+ghost use Rattle.std.specs.Prelude.{◌≡◌, ◌≢◌, ◌<◌, ◌≤◌, ℕ, length, set, slice_index, IfOk};
 ghost use Rattle.plane.specs.First.{IsFirstPairOrNone};
 ghost use Rattle.plane.specs.Geometry.{IsBetween};
-ghost use Rattle.directions.specs.Opposites.{AreClear, AreKeys, AreMarked, HasShared, IsFirstOpposite, IsBumped};
+ghost use Rattle.directions.specs.Opposites.{AreClear, AreFollowed, AreLinked, IsFirstOpposite};
 
 use crate::line_key::line_key_of;
 use mcp_outside::NoMemory;
@@ -12,15 +11,18 @@ use std::alloc::Global;
 use std::marker::Model;
 use std::snapshot::Snapshot;
 
-// A prime, so that keys spread over the buckets.
-const BUCKETS: u32 = 131_071;
+// The buckets of a search fit a processor's nearest memory.
+const BUCKETS: u32 = 16_384;
+
+// Stands where there is no point.
+const NOBODY: u16 = u16::MAX;
 
 /// Room for finding who lies opposite to whom, for one set of points, which contracts see.
 #[derive(Drop)]
 pub struct Opposites {
-    keys: Vec<u32>,
-    marks: Vec<u8>,
-    shared: Vec<u32>,
+    // the first point in each bucket, and after each point the next one in its bucket
+    heads: Vec<u16>,
+    next: Vec<u16>,
     points: Snapshot<Points>,
 }
 
@@ -32,95 +34,76 @@ impl Model for Opposites {
 
     ghost view = { λ a. a.points.value };
 
-    ghost invariant = { λ a. (length a.keys.items ≡ length a.points.value) × (length a.marks.items ≡ 131071) };
+    ghost invariant = { λ a. (length a.heads.items ≡ 16384) × (length a.next.items ≡ length a.points.value) };
 }
 
-// Takes all marks away.
-fn clear_marks(marks: &mut [u8])
-    ensures { AreClear marks.new (length marks.old) }
+// Empties all buckets.
+fn clear_heads(heads: &mut [u16])
+    ensures { AreClear heads.new (length heads.old) }
 {
-    for b in 0..marks.len() {
-        marks[b] = 0;
+    for b in 0..heads.len() {
+        heads[b] = NOBODY;
     }
 }
 
-// Notes a key, and marks its bucket: 1 for one key, 2 for more.
-fn mark(keys: &mut [u32], marks: &mut [u8], q: u32, key: u32)
-    requires q_in { q < length keys.old }
-    requires room { length marks.old ≡ 131071 }
-    ensures keys { keys.new ≡ set keys.old q key }
-    ensures marks { IsBumped marks.old (key % 131071) marks.new }
+// Puts q into its bucket, before the points that are there.
+fn link(heads: &mut [u16], next: &mut [u16], q: u16, bucket: u32)
+    requires q_in { q < length next.old }
+    requires bucket_in { bucket < length heads.old }
+    ensures heads { heads.new ≡ set heads.old bucket q }
+    ensures next { next.new ≡ set next.old q (slice_index heads.old bucket) }
 {
-    keys[q as usize] = key;
-    let bucket = (key % BUCKETS) as usize;
-    marks[bucket] = if marks[bucket] == 0 { 1 } else { 2 };
+    next[usize::from(q)] = heads[bucket as usize];
+    heads[bucket as usize] = q;
 }
 
-// Notes and marks the keys of all points but p.
-fn mark_all(points: &Points, p: u32, keys: &mut [u32], marks: &mut [u8])
+// Puts all points but p into the buckets of their keys.
+fn link_all(points: &Points, p: u32, heads: &mut [u16], next: &mut [u16])
     requires p_in { p < length points.now }
-    requires count { length keys.old ≡ length points.now }
-    requires clear { AreClear marks.old 131071 }
-    ensures { AreMarked points.now p (length points.now) keys.new marks.new }
+    requires count { length next.old ≡ length points.now }
+    requires clear { AreClear heads.old 16384 }
+    ensures { AreLinked points.now p 0 heads.new next.new }
 {
-    for q in 0..points.len() {
-        if q != p {
-            let key = line_key_of(points, p, q);
-            mark(keys, marks, q, key);
+    let mut left = points.len();
+    while left > 0 {
+        left -= 1;
+        if left != p {
+            let bucket = line_key_of(points, p, left) % BUCKETS;
+            link(heads, next, left as u16, bucket);
         }
     }
 }
 
-// The points whose buckets have more than one key, ascending.
-fn gather(
-    points: &Points,
-    p: u32,
-    keys: &[u32],
-    marks: &[u8],
-    shared: &mut Vec<u32>,
-) -> Result<(), NoMemory>
-    requires { AreMarked points.now p (length points.now) keys.now marks.now }
-    ensures { OnOk result (HasShared points.now p shared.new.items) }
-{
-    shared.clear();
-    for q in 0..points.len() {
-        if q != p && marks[(keys[q as usize] % BUCKETS) as usize] == 2 {
-            shared.push(q)?;
-        }
-    }
-    Ok(())
-}
-
-// The first point after that at position a that lies opposite to it.
-fn first_from(points: &Points, p: u32, keys: &[u32], shared: &[u32], a: usize) -> Option<u32>
+// The first point after q that lies opposite to it.
+fn first_after(points: &Points, p: u32, next: &[u16], q: u32) -> Option<u32>
     requires p_in { p < length points.now }
-    requires keys { AreKeys points.now p (length points.now) keys.now }
-    requires shared { HasShared points.now p shared.now }
-    requires place { a < length shared.now }
-    ensures { IsFirstOpposite points.now p shared.now a (length shared.now) result }
+    requires q_in { q < length points.now }
+    requires next { AreFollowed points.now p 0 next.now }
+    ensures { IsFirstOpposite points.now p q result }
 {
-    let _count = points.len();
-    let q = shared[a];
-    for b in a + 1..shared.len() {
-        let r = shared[b];
-        if keys[r as usize] == keys[q as usize] && points.between(p, q, r) {
+    let count = points.len();
+    if q == p {
+        return None;
+    }
+    let mut r = u32::from(next[q as usize]);
+    while r < count {
+        if points.between(p, q, r) {
             return Some(r);
         }
+        r = u32::from(next[r as usize]);
     }
     None
 }
 
 // The first two points that p is strictly between.
-fn first_pair(points: &Points, p: u32, keys: &[u32], shared: &[u32]) -> Option<(u32, u32)>
+fn first_pair(points: &Points, p: u32, next: &[u16]) -> Option<(u32, u32)>
     requires p_in { p < length points.now }
-    requires keys { AreKeys points.now p (length points.now) keys.now }
-    requires shared { HasShared points.now p shared.now }
+    requires next { AreFollowed points.now p 0 next.now }
     ensures { IsFirstPairOrNone (λ i j. IsBetween points.now p i j) (length points.now) result }
 {
-    let _count = points.len();
-    for a in 0..shared.len() {
-        if let Some(r) = first_from(points, p, keys, shared, a) {
-            return Some((shared[a], r));
+    for q in 0..points.len() {
+        if let Some(r) = first_after(points, p, next, q) {
+            return Some((q, r));
         }
     }
     None
@@ -131,12 +114,11 @@ impl Opposites {
     pub fn make(alloc: Global, points: &Points) -> Result<Opposites, NoMemory>
         ensures { IfOk result (λ a. a ≡ points.now) }
     {
-        let keys = vec![in alloc; 0u32; points.len() as usize]?;
-        let marks = vec![in alloc; 0u8; BUCKETS as usize]?;
+        let heads = vec![in alloc; NOBODY; BUCKETS as usize]?;
+        let next = vec![in alloc; NOBODY; points.len() as usize]?;
         Ok(Opposites {
-            keys,
-            marks,
-            shared: Vec::new(alloc),
+            heads,
+            next,
             points: Snapshot::of(points),
         })
     }
@@ -148,21 +130,14 @@ impl Opposites {
         ensures first { IfOk result (IsFirstPairOrNone (λ i j. IsBetween points.now p i j) (length points.now)) }
         ensures points { self.new ≡ self.old }
     {
-        clear_marks(self.marks.as_mut_slice());
-        mark_all(
+        clear_heads(self.heads.as_mut_slice());
+        link_all(
             points,
             p,
-            self.keys.as_mut_slice(),
-            self.marks.as_mut_slice(),
+            self.heads.as_mut_slice(),
+            self.next.as_mut_slice(),
         );
-        gather(
-            points,
-            p,
-            self.keys.as_slice(),
-            self.marks.as_slice(),
-            &mut self.shared,
-        )?;
-        Ok(first_pair(points, p, self.keys.as_slice(), self.shared.as_slice()))
+        Ok(first_pair(points, p, self.next.as_slice()))
     }
 }
 

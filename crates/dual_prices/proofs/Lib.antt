@@ -1,3 +1,5 @@
 pub mod laws
 mod Floors
 mod Tables
+mod Leasts
+mod Standing

@@ -3,7 +3,7 @@ use Rattle.std.proofs.Common.{◌≡◌, ◌≢◌, ℕ, zero, suc, ◌+◌, ◌
 use Rattle.std.specs.Prelude.{◌+ℤ◌, ◌-ℤ◌, ◌&&◌, ◌||◌, nat_eq}
 use Rattle.std.proofs.Math.Nat.{mul-div_cancel, mul-le-mul_left}
 use Rattle.std.proofs.lemmas.Int.{ints}
-use Rattle.std.proofs.lemmas.Bool.{cases_lt, eqb-true, false≢true}
+use Rattle.std.proofs.lemmas.Bool.{cases_lt, eqb-true, false≢true, ne_eqb}
 use Rattle.std.specs.Prelude.{replicate}
 use Rattle.std.proofs.Common.{length-append}
 use Rattle.std.proofs.lemmas.List.{length-set, length-take, length-replicate, get_or-replicate, take_more, get_or-set_same, get_or-set_other}
@@ -312,17 +312,13 @@ part_small_at S row p r by old now part small pn rn ne = subst IsSmall (sym (par
 pub entry_small : (n : ℕ) (table : List ℤ) (e : Pair) → AreSmall n table → e.hi < n → IsSmall (entry table (slot e.lo e.hi))
 entry_small n table e small en = (let h = small e.lo e.hi e.ordered en in (omega (arith, ints, h.0), omega (arith, ints, h.1)))
 
--- a Half row and a Three row count pairs at their point alone
-not_equal : (i p : ℕ) → i ≢ p → nat_eq i p ≡ false
-not_equal i p ne = elim (nat_eq i p) as (λ t. nat_eq i p ≡ t → t ≡ false) [ true ↦ λ t. absurd (ne (eqb-true i p t)) | false ↦ λ t. refl ] refl
-
 half_only : (S : List Point) (p q w i j : ℕ) → i ≢ p → j ≢ p → counts S (Half p q w) i j ≡ false
 unfolding counts
-half_only S p q w i j ip jp = ap₂ (λ a b. (a && in_need S p q j) || (b && in_need S p q i)) (not_equal i p ip) (not_equal j p jp)
+half_only S p q w i j ip jp = ap₂ (λ a b. (a && in_need S p q j) || (b && in_need S p q i)) (ne_eqb i p ip) (ne_eqb j p jp)
 
 three_only : (S : List Point) (p w i j : ℕ) → i ≢ p → j ≢ p → counts S (Three p w) i j ≡ false
 unfolding counts
-three_only S p w i j ip jp = ap₂ (λ a b. a || b) (not_equal i p ip) (not_equal j p jp)
+three_only S p w i j ip jp = ap₂ (λ a b. a || b) (ne_eqb i p ip) (ne_eqb j p jp)
 
 half_none : (p q w i j : ℕ) → lessens (Half p q w) i j ≡ false
 unfolding lessens

@@ -1,3 +1,4 @@
+pub mod Raised
 pub mod Rooms
 pub mod Floors
 pub mod Kept

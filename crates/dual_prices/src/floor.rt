@@ -8,6 +8,7 @@ ghost use Rattle.price_defs.specs.Tight.{AreCovered};
 ghost use Rattle.dual_prices.specs.Floors.{IsLeastCostBelow, AreFloorRowsBelow, HasFloorRowsAt};
 
 use crate::least::is_below;
+use border::inner_marks;
 use cost_defs::Costs;
 use directions::Opposites;
 use mcp_outside::NoMemory;
@@ -108,10 +109,12 @@ fn push_rows(
 fn floor_rows(alloc: Global, points: &Points, costs: &Costs) -> Result<Vec<Row>, NoMemory>
     ensures { IfOk result (λ v. AreFloorRowsBelow points.now costs.now (length points.now) v.items) }
 {
+    let marks = inner_marks(alloc, points)?;
     let mut opposites = Opposites::make(alloc, points)?;
     let mut rows = Vec::new(alloc);
     for p in 0..points.len() {
-        if points.is_inner(p) {
+        let inner = marks[p as usize];
+        if inner {
             push_rows(points, costs, &mut opposites, p, &mut rows)?;
         }
     }

@@ -1,5 +1,5 @@
 // The least number so far.
-ghost use Rattle.dual_prices.specs.Rooms.{IsBelow, IsZero};
+ghost use Rattle.dual_prices.specs.Rooms.{IsBelow};
 
 /// Whether a number is below the least so far, or the first one.
 pub fn is_below(x: u64, least: Option<u64>) -> bool
@@ -8,15 +8,5 @@ pub fn is_below(x: u64, least: Option<u64>) -> bool
     match least {
         Some(m) => x < m,
         None => true,
-    }
-}
-
-/// Whether the least number so far is 0.
-pub fn is_zero(least: Option<u64>) -> bool
-    ensures { IsZero least result }
-{
-    match least {
-        Some(m) => m == 0,
-        None => false,
     }
 }

@@ -7,12 +7,13 @@ mod least;
 mod loads;
 mod raising;
 mod reading;
+mod rooms;
 
 pub use cost_defs::Costs;
 pub use floor::floor_certificate;
 pub use loads::Loads;
 pub use price_defs::{Certificate, MOST_DIVISOR, MOST_ROWS, MOST_WEIGHT, Row, RowList};
-pub use raising::raise_all;
+pub use raising::{full_end, raise_all, raise_row};
 pub use reading::{load, value};
 
 #[cfg(test)]

@@ -1,130 +1,128 @@
 // Raising: each Half and Three row, in its turn, by as much as the pairs that it counts allow.
-ghost use Rattle.std.specs.Prelude.{◌≡◌, ◌≤◌, ◌<◌, ◌+◌, ◌≢◌, ◌↔◌, ℕ, length, IfOk, IsTrue};
+ghost use Rattle.std.specs.Prelude.{◌≡◌, ◌≤◌, ◌<◌, ◌+◌, ℕ, None, length, IfOk, IfSome, MatchOption};
 ghost use Rattle.std.specs.List.{AllZip, sum_by};
-ghost use Rattle.plane.specs.Geometry.{IsClear};
 ghost use Rattle.price_defs.specs.Limits.{AreLight};
 ghost use Rattle.price_defs.specs.Loads.{IsValid, lost, value};
 ghost use Rattle.price_defs.specs.Raising.{AreRaised};
-ghost use Rattle.price_defs.specs.Rows.{IsRight};
+ghost use Rattle.price_defs.specs.Rows.{row_at, stand};
 ghost use Rattle.price_defs.specs.Tight.{AreCovered, IsTight};
 ghost use Rattle.raise_laws.specs.Laws.{Grows};
-ghost use Rattle.dual_prices.specs.Rooms.{IsRoomFor, IsLeastRoom, IsRaisedAt};
+ghost use Rattle.dual_prices.specs.Raised.{IsFullEnd, IsRaisedAt};
 
-use crate::least::{is_below, is_zero};
+use crate::rooms::least_room;
 use cost_defs::Costs;
+use directions::ClearPairs;
 use mcp_outside::NoMemory;
-use plane::{Pair, Points};
+use plane::Points;
 use point_rows::PointRows;
-use price_defs::{Certificate, MOST_DIVISOR, Row, RowList, is_counted, stand_of, weight_of};
+use price_defs::{Certificate, MOST_DIVISOR, Row, RowList, stand_of, weight_of};
 use std::alloc::Global;
 
-// Whether no point is strictly between two points.
-fn is_clear_between(points: &Points, p: u32, r: u32) -> bool
-    requires p_in { p < length points.now }
-    requires r_in { r < length points.now }
-    requires apart { p ≢ r }
-    ensures { IsTrue result ↔ IsClear points.now p r }
-{
-    points.is_clear(Pair::of(p, r))
-}
-
-// What the pair of p and r may still get, or none where the row doesn't count it. A pair that has more than is allowed
-// isn't clear.
-fn room(
+/// Raises the row at `k`, where it is a Half or Three row, and shows the other end of a pair with which it is full then;
+/// nothing of another row. The ends in `hints`, which may be any numbers, are looked at first: where a pair with one of
+/// them is full, no other is tried. Whether pairs are clear is asked of `clear`, or of the points where there is none.
+pub fn raise_row(
     points: &Points,
     costs: &Costs,
     q: u64,
-    kept: &PointRows,
-    row: Row,
-    p: u32,
-    r: u32,
-) -> Option<u64>
-    requires points { points.now ≡ kept.now.points }
-    requires valid { IsValid points.now costs.now q kept.now.rows }
+    clear: Option<&ClearPairs>,
+    kept: &mut PointRows,
+    k: u32,
+    hints: &[u32],
+) -> Option<u32>
+    requires points { points.now ≡ kept.old.points }
+    requires valid { IsValid points.now costs.now q kept.old.rows }
     requires small { q ≤ MOST_DIVISOR }
-    requires right { IsRight points.now row }
-    requires p_in { p < length points.now }
-    requires r_in { r < length points.now }
-    ensures { IsRoomFor points.now costs.now q kept.now.rows row p r result }
+    requires clear { IfSome clear (λ set. set.now ≡ points.now) }
+    requires takers { sum_by lost kept.old.rows ≤ 100000000000 }
+    requires place { k < length kept.old.rows }
+    ensures rows { IsRaisedAt points.now costs.now q kept.old.rows k kept.new.rows }
+    ensures end { MatchOption result (stand (row_at kept.new.rows k) ≡ None) (λ s. IsFullEnd points.now costs.now q kept.new.rows k s) }
+    ensures points { kept.new.points ≡ kept.old.points }
 {
-    if r == p {
+    let _listed = costs.list();
+    let _count = points.len();
+    let row = kept.rows()[k as usize];
+    let Some(p) = stand_of(row) else {
         return None;
-    }
-    if !is_counted(points, row, p, r) {
-        return None;
-    }
-    let e = Pair::of(p, r);
-    let allowed = q * u64::from(costs.of(e)) + kept.takes(e);
-    let given = kept.gives(points, p, r);
-    if given <= allowed {
-        Some(allowed - given)
-    } else {
-        None
-    }
-}
-
-// The least room with the points up to r, from that with the points before it. Whether a pair is clear is asked only
-// where its room is less than the least so far.
-fn lesser_room(
-    points: &Points,
-    costs: &Costs,
-    q: u64,
-    kept: &PointRows,
-    row: Row,
-    p: u32,
-    r: u32,
-    least: Option<u64>,
-) -> Option<u64>
-    requires points { points.now ≡ kept.now.points }
-    requires valid { IsValid points.now costs.now q kept.now.rows }
-    requires small { q ≤ MOST_DIVISOR }
-    requires right { IsRight points.now row }
-    requires p_in { p < length points.now }
-    requires r_in { r < length points.now }
-    requires least { IsLeastRoom points.now costs.now q kept.now.rows row p r least }
-    ensures { IsLeastRoom points.now costs.now q kept.now.rows row p (r + 1) result }
-{
-    let Some(m) = room(points, costs, q, kept, row, p, r) else {
-        return least;
     };
-    if !is_below(m, least) {
-        return least;
-    }
-    if is_clear_between(points, p, r) {
-        Some(m)
-    } else {
-        least
+    match least_room(points, costs, q, clear, kept, row, p, hints) {
+        Some(room) => {
+            kept.set_weight(k, weight_of(row) + room.more);
+            Some(room.end)
+        }
+        None => unreachable!(),
     }
 }
 
-// The least room over all other ends.
-fn least_room(
+/// The other end of a pair with which the row at `k` of a tight certificate is full, where it is a Half or Three row;
+/// of another row some number.
+pub fn full_end(
     points: &Points,
     costs: &Costs,
     q: u64,
+    clear: Option<&ClearPairs>,
     kept: &PointRows,
-    row: Row,
-    p: u32,
-) -> Option<u64>
+    k: u32,
+) -> u32
     requires points { points.now ≡ kept.now.points }
     requires valid { IsValid points.now costs.now q kept.now.rows }
+    requires tight { IsTight points.now costs.now q kept.now.rows }
     requires small { q ≤ MOST_DIVISOR }
-    requires right { IsRight points.now row }
-    requires p_in { p < length points.now }
-    ensures { IsLeastRoom points.now costs.now q kept.now.rows row p (length points.now) result }
+    requires clear { IfSome clear (λ set. set.now ≡ points.now) }
+    requires place { k < length kept.now.rows }
+    ensures { IsFullEnd points.now costs.now q kept.now.rows k result }
 {
-    let mut least = None;
-    for r in 0..points.len() {
-        least = lesser_room(points, costs, q, kept, row, p, r, least);
-        if is_zero(least) {
-            return least;
-        }
+    let _count = points.len();
+    let row = kept.rows()[k as usize];
+    let Some(p) = stand_of(row) else {
+        return 0;
+    };
+    let hints = [p.wrapping_sub(1), p.wrapping_add(1)];
+    match least_room(points, costs, q, clear, kept, row, p, &hints) {
+        Some(room) => room.end,
+        None => unreachable!(),
     }
-    least
 }
 
-// Raises the row at k, where it is a Half or Three row.
-fn raise_row(points: &Points, costs: &Costs, q: u64, kept: &mut PointRows, k: u32)
+// The ends that are looked at first for the row at k: the one that was full with its point when that was last raised, or
+// with which a row was full, and the points beside it by index.
+fn hints_of(kept: &PointRows, partners: &[u32], k: u32) -> [u32; 3]
+    requires { k < length kept.now.rows }
+{
+    let Some(p) = stand_of(kept.rows()[k as usize]) else {
+        return [0; 3];
+    };
+    let partner = if p as usize >= partners.len() {
+        0
+    } else {
+        partners[p as usize]
+    };
+    [partner, p.wrapping_sub(1), p.wrapping_add(1)]
+}
+
+// Notes that the pair of the row's point and an end is full.
+fn note(kept: &PointRows, partners: &mut [u32], k: u32, end: u32)
+    requires { k < length kept.now.rows }
+{
+    let Some(p) = stand_of(kept.rows()[k as usize]) else {
+        return;
+    };
+    if (p as usize) < partners.len() && (end as usize) < partners.len() {
+        partners[p as usize] = end;
+        partners[end as usize] = p;
+    }
+}
+
+// Raises the row at k, and notes with which end it is full.
+fn raise_next(
+    points: &Points,
+    costs: &Costs,
+    q: u64,
+    kept: &mut PointRows,
+    partners: &mut [u32],
+    k: u32,
+)
     requires points { points.now ≡ kept.old.points }
     requires valid { IsValid points.now costs.now q kept.old.rows }
     requires small { q ≤ MOST_DIVISOR }
@@ -133,15 +131,9 @@ fn raise_row(points: &Points, costs: &Costs, q: u64, kept: &mut PointRows, k: u3
     ensures rows { IsRaisedAt points.now costs.now q kept.old.rows k kept.new.rows }
     ensures points { kept.new.points ≡ kept.old.points }
 {
-    let _listed = costs.list();
-    let _count = points.len();
-    let row = kept.rows()[k as usize];
-    let Some(p) = stand_of(row) else {
-        return;
-    };
-    match least_room(points, costs, q, kept, row, p) {
-        Some(more) => kept.set_weight(k, weight_of(row) + more),
-        None => unreachable!(),
+    let hints = hints_of(kept, partners, k);
+    if let Some(end) = raise_row(points, costs, q, None, kept, k, &hints) {
+        note(kept, partners, k, end);
     }
 }
 
@@ -162,9 +154,10 @@ fn raised(
     let _count = points.len();
     let Certificate { q, rows } = certificate;
     let mut kept = PointRows::make(alloc, points, rows.into_vec())?;
+    let mut partners = vec![in alloc; 0u32; points.len() as usize]?;
     let count = kept.rows().len() as u32;
     for k in 0..count {
-        raise_row(points, costs, q, &mut kept, k);
+        raise_next(points, costs, q, &mut kept, partners.as_mut_slice(), k);
     }
     Ok(kept.into_rows())
 }

@@ -31,13 +31,6 @@ use Rattle.journal_defs.proofs.laws.Turned.{joined_apart, star_is_value}
 use Rattle.journal_defs.proofs.laws.Follow.{star_follows}
 use Rattle.partition_defs.proofs.laws.Flips.{joins_in}
 
--- the other end of a pair
-pub other_of : (e : Pair) (v : ℕ) → is_end e v ≡ true → (w : ℕ) × HasEnds e v w
-other_of e v h = elim ((Decides-or (nat_eq e.lo v) (nat_eq e.hi v) (Decides-eqb e.lo v) (Decides-eqb e.hi v)).0 h) [
-  | inl a ↦ (e.hi, inl (a, refl))
-  | inr a ↦ (e.lo, inr (refl, a))
-]
-
 -- a pair with these ends is joined
 pub ends_joined : (K : List Pair) (e : Pair) (v w : ℕ) → HasEnds e v w → Contains K e → Joins K v w
 ends_joined K e v w ends h = join_ends K e v w ends (contains_joins K e h)

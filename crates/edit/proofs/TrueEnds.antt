@@ -23,15 +23,12 @@ use Rattle.journal_defs.specs.declared.edit.Edit.TheVariants.{Drop}
 use Rattle.journal_defs.proofs.laws.Members.{is_end_lo, is_end_hi}
 use Rattle.edit.specs.DropRow.{AreTrueEnds}
 use Rattle.edit.proofs.Shown.{apexes_inside}
+use Rattle.partition_defs.proofs.laws.Sides.{all_behind}
 
 -- where the star of p shows no apex of p to q, no point is strictly left
 none_left : (S : List Point) (s : State) (at : ℕ → Seen) (p q : ℕ) → IsSound S s → IsStarOf S s.all s.kept p (at p) → Joins s.all p q → ((r : ℕ) → ¬ ShowsApex S (at p) p q r) → ¬ HasLeft S p q
 none_left S s at p q sound so join none left =
     let (r, apex) = sound.triangulation.apex p q join left in none r (apex_shows S s at p q r sound so join apex)
-
--- so all points are on the other side, or on the line
-all_behind : (S : List Point) (p q : ℕ) → ¬ HasLeft S p q → HasAllLeft S q p
-all_behind S p q none k hk = by_high (orientation S p q k) (λ h. absurd (none (k, hk, h))) (λ h. (let e = area_back (point S q) (point S p) (point S k) in omega (arith, ints)))
 
 -- a pair of a state is a border pair where one of its true stars shows no apex
 pub border_of_missing : (S : List Point) (low high : Seen) (e : Pair) (near far : Option ℕ) → AreTrueEnds S low high e → Shows low e → IsShownApex S low e.lo e.hi near → IsShownApex S high e.hi e.lo far

@@ -15,12 +15,7 @@ use Rattle.index_sets.specs.Indices.{contains, all_but, HasNoRepeat, numbers_fro
 use Rattle.index_sets.specs.Prefixes.{longer}
 use Rattle.index_sets.specs.Entries.{entries_of, LacksCaller}
 use Rattle.index_sets.specs.Owners.{handed, merged, IsCut}
-use Rattle.std.proofs.lemmas.Bool.{or_right}
-
--- Tests.
-pub is_false : (b : Bool) → (b ≡ true → ⊥) → b ≡ false
-is_false true n = absurd (n refl)
-is_false false n = refl
+use Rattle.std.proofs.lemmas.Bool.{or_right, false_from_ne_true}
 
 -- Lists of indices.
 pub contains-first : (xs : List ℕ) (i : ℕ) → contains (i ∷ xs) i ≡ true
@@ -100,7 +95,7 @@ all_but-snoc xs i h = go xs (HasNoRepeat-init xs i h)
 pub HasNoRepeat-append : (xs ys : List ℕ) → HasNoRepeat xs → HasNoRepeat ys → ((i : ℕ) → contains xs i ≡ true → contains ys i ≡ true → ⊥) → HasNoRepeat (xs ++ ys)
 HasNoRepeat-append [] ys h k apart = k
 HasNoRepeat-append (x ∷ xs) ys h k apart = (
-  is_false (contains (xs ++ ys) x) (λ t. ⊎_elim (λ l. true≢false (sym l ∙ h.0)) (λ r. apart x (contains-first xs x) r) (contains-append xs ys x t)),
+  false_from_ne_true (contains (xs ++ ys) x) (λ t. ⊎_elim (λ l. true≢false (sym l ∙ h.0)) (λ r. apart x (contains-first xs x) r) (contains-append xs ys x t)),
   HasNoRepeat-append xs ys h.1 k (λ i l r. apart i (contains-later x xs i l) r),
 )
 
@@ -166,7 +161,7 @@ AllByRecursion-contains P (x ∷ xs) h = (h x (contains-first xs x), AllByRecurs
 
 pub HasNoRepeat-numbers_from : (n count : ℕ) → HasNoRepeat (numbers_from n count)
 HasNoRepeat-numbers_from n zero = tt
-HasNoRepeat-numbers_from n (suc m) = (is_false (contains (numbers_from (suc n) m) n) (λ t. let z = numbers_from-least (suc n) m n t in absurd (omega arith)), HasNoRepeat-numbers_from (suc n) m)
+HasNoRepeat-numbers_from n (suc m) = (false_from_ne_true (contains (numbers_from (suc n) m) n) (λ t. let z = numbers_from-least (suc n) m n t in absurd (omega arith)), HasNoRepeat-numbers_from (suc n) m)
 
 -- Owners.
 pub handed-here : (owner : ℕ → ℕ) (indices : List ℕ) (new i : ℕ) → contains indices i ≡ true → handed owner indices new i ≡ new
@@ -177,7 +172,7 @@ handed-else owner indices new i h = ap (λ b. if b then new else owner i) h
 
 -- what one owner had, and didn't go, is still another's than what somebody else had
 pub handed-others : (owner : ℕ → ℕ) (indices : List ℕ) (new id j i : ℕ) → ((k : ℕ) → contains indices k ≡ true → owner k ≡ id) → j ≢ id → owner i ≡ j → handed owner indices new i ≡ j
-handed-others owner indices new id j i theirs other own = handed-else owner indices new i (is_false (contains indices i) (λ t. other (sym own ∙ theirs i t))) ∙ own
+handed-others owner indices new id j i theirs other own = handed-else owner indices new i (false_from_ne_true (contains indices i) (λ t. other (sym own ∙ theirs i t))) ∙ own
 
 pub merged-old : (owner : ℕ → ℕ) (old new i : ℕ) → owner i ≡ old → merged owner old new i ≡ new
 merged-old owner old new i e = ap (λ b. if b then new else owner i) (eq-eqb (owner i) old e)
@@ -187,7 +182,7 @@ merged-else owner old new i n = ap (λ b. if b then new else owner i) (ne_eqb (o
 
 pub IsCut-one : (xs : List ℕ) (i : ℕ) → contains xs i ≡ true → IsCut xs (all_but xs i) (i ∷ [])
 IsCut-one xs i h = record {
-  left = λ j l. let o = all_but-is_other xs i j l in (o.0, is_false (contains (i ∷ []) j) (λ t. o.1 (contains-one i j t)));
+  left = λ j l. let o = all_but-is_other xs i j l in (o.0, false_from_ne_true (contains (i ∷ []) j) (λ t. o.1 (contains-one i j t)));
   right = λ j r. ap (contains xs) (contains-one i j r) ∙ h;
 }
 
@@ -196,7 +191,7 @@ IsCut-none xs = record { left = λ j l. (l, refl); right = λ j r. absurd (true�
 
 pub IsCut-first : (x : ℕ) (xs : List ℕ) → contains xs x ≡ false → IsCut (x ∷ xs) xs (x ∷ [])
 IsCut-first x xs h = record {
-  left = λ j l. (contains-later x xs j l, is_false (contains (x ∷ []) j) (λ t. true≢false (sym l ∙ (ap (contains xs) (contains-one x j t) ∙ h))));
+  left = λ j l. (contains-later x xs j l, false_from_ne_true (contains (x ∷ []) j) (λ t. true≢false (sym l ∙ (ap (contains xs) (contains-one x j t) ∙ h))));
   right = λ j r. ap (contains (x ∷ xs)) (contains-one x j r) ∙ contains-first xs x;
 }
 

@@ -27,6 +27,8 @@ use Rattle.instance_io.specs.Refusal.{ends, cost_item, AreCostsOf}
 use Rattle.instance_io.specs.Reading.{is_listed, GivesCosts}
 use Rattle.instance_io.specs.Told.{TellsCosts, error}
 use Rattle.instance_io.specs.declared.instances.InstanceFault.{InstanceFault}
+use Rattle.instance_io.proofs.Places.{below_bound, range_at, index_bound}
+use Rattle.std.proofs.lemmas.Option.{same_Some}
 
 -- ---- what is found among the items
 
@@ -101,9 +103,6 @@ taken_more n ds k d e c old new l h q t none here others =
         | false ↦ λ b. others f b ∙ (t.same f ∙ sym (ap (lookup (is_same_pair (ends f))) more ∙ lookup-push_other (is_same_pair (ends f)) (filter_map (cost_of n) (take k ds)) (cost_item (e, c)) (ends_other e f b)))
       ] refl;
     }
-
-range_at : (ds : List Data) (j : ℕ) → j < length ds → get_or (range_with_len 0 (length ds)) j 0 ≡ j
-range_at ds j h = let z : 0 + j ≡ j = omega arith in get_or-range_with_len 0 (length ds) j 0 h ∙ z
 
 pub bad_cost_found : (n : ℕ) (ds : List Data) (k : ℕ) → k < length ds → ((j : ℕ) → j < k → has_bad_cost n ds j ≡ false) → has_bad_cost n ds k ≡ true → cost_fault n ds ≡ Some (bad_cost k)
 bad_cost_found n ds k h b t =
@@ -226,17 +225,6 @@ cost-filter (x ∷ es) e h =
 
 -- ---- all items
 
-below_bound : (n i : ℕ) (z : ℤ) → below n z ≡ Some i → i < n
-below_bound n i (pos k) h = grind arith
-below_bound n i (negsuc k) h = grind arith
-
-whole_below_bound : (n i : ℕ) (o : Option ℤ) → option_and_then (below n) o ≡ Some i → i < n
-whole_below_bound n i None h = grind arith
-whole_below_bound n i (Some z) h = below_bound n i z h
-
-some_same : {A : Type 0} {x y : A} → Some x ≡ Some y → x ≡ y
-some_same h = grind (arith, h)
-
 none_some : {A : Type 0} {x : A} → None ≡ Some x → ⊥
 none_some h = grind (arith, h)
 
@@ -245,8 +233,8 @@ three_small None c x h = absurd (none_some h)
 three_small (Some e) c x h =
     elim (whole_below 1001 c) as (λ w. whole_below 1001 c ≡ w → option_map (λ v. (e, v)) w ≡ Some x → x.1 ≤ 1000) [
       | None ↦ λ q k. absurd (none_some k)
-      | Some w ↦ λ q k. (let b : w < 1001 = whole_below_bound 1001 w (whole c) q in
-          let same : w ≡ x.1 = ap (λ (y : CostItem). y.1) (some_same k) in
+      | Some w ↦ λ q k. (let b : w < 1001 = index_bound 1001 w (whole c) q in
+          let same : w ≡ x.1 = ap (λ (y : CostItem). y.1) (same_Some _ _ k) in
           omega (arith, b, same))
     ] refl h
 

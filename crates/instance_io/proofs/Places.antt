@@ -20,7 +20,7 @@ use Rattle.instance_io.specs.declared.instances.InstanceFault.TheVariants.{NotWh
 
 -- ---- items by their indices
 
-below_bound : (n i : ℕ) (z : ℤ) → below n z ≡ Some i → i < n
+pub below_bound : (n i : ℕ) (z : ℤ) → below n z ≡ Some i → i < n
 below_bound n i (pos k) h = grind arith
 below_bound n i (negsuc k) h = grind arith
 
@@ -34,7 +34,7 @@ bad_by_index : (seen : List Bool) (ds : List Data) (k : ℕ) (b : Bool) (o : Opt
 bad_by_index seen ds k b None l s h = h
 bad_by_index seen ds k b (Some i) l s h = sym (s i (l i refl)) ∙ h
 
-index_bound : (n i : ℕ) (o : Option ℤ) → option_and_then (below n) o ≡ Some i → i < n
+pub index_bound : (n i : ℕ) (o : Option ℤ) → option_and_then (below n) o ≡ Some i → i < n
 index_bound n i None h = grind arith
 index_bound n i (Some z) h = below_bound n i z h
 
@@ -78,7 +78,7 @@ seen_more seen ds k i l h b s j q =
 pub good_more : (ds : List Data) (k : ℕ) → ((j : ℕ) → j < k → has_bad_index ds j ≡ false) → has_bad_index ds k ≡ false → (j : ℕ) → j < k + 1 → has_bad_index ds j ≡ false
 good_more ds k b t = below_next (has_bad_index ds) k b t
 
-range_at : (ds : List Data) (j : ℕ) → j < length ds → get_or (range_with_len 0 (length ds)) j 0 ≡ j
+pub range_at : (ds : List Data) (j : ℕ) → j < length ds → get_or (range_with_len 0 (length ds)) j 0 ≡ j
 range_at ds j h = let z : 0 + j ≡ j = omega arith in get_or-range_with_len 0 (length ds) j 0 h ∙ z
 
 pub bad_index_found : (ds : List Data) (k : ℕ) → k < length ds → ((j : ℕ) → j < k → has_bad_index ds j ≡ false) → has_bad_index ds k ≡ true → index_fault ds ≡ Some (bad_index k)

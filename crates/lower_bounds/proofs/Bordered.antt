@@ -18,6 +18,7 @@ use Rattle.std.proofs.lemmas.Bool.{false≢true}
 use Rattle.std.proofs.lemmas.Int.{ints}
 use Rattle.subdivision.specs.Layout.{IsApexOrNone}
 use Rattle.lower_bounds.specs.Border.{AreBorderAmong}
+use Rattle.partition_defs.proofs.laws.Sides.{all_behind}
 
 -- what is found stands in the list
 found_there : (S : List Point) (pairs found : List Pair) → AreBorderAmong S pairs found → (e : Pair) → Has e found → Has e pairs
@@ -100,9 +101,6 @@ turned x y e f = elim (negative_or y) [
   | inr (inr high) ↦ absurd (f high)
 ]
 
-all_left : (S : List Point) (p q : ℕ) → ¬ HasLeft S p q → HasAllLeft S q p
-all_left S p q none k low = turned (orientation S q p k) (orientation S p q k) (area_back (point S q) (point S p) (point S k)) (λ left. none (k, low, left))
-
 none_left : (S : List Point) (p q : ℕ) → HasAllLeft S q p → ¬ HasLeft S p q
 none_left S p q all (k, low, left) = not_both (orientation S p q k) (orientation S q p k) (area_back (point S p) (point S q) (point S k)) left (all k low)
   where
@@ -127,11 +125,11 @@ pub record HasApexes (S : List Point) (T : List Pair) (e : Pair) (a b : Option �
 
 -- it is a border pair exactly where it has none on one of its sides
 pub left_border : (S : List Point) (T : List Pair) (e : Pair) (a b : Option ℕ) → HasApexes S T e a b → is_some a ≡ false → IsBorderPair S e.lo e.hi
-left_border S T e a b h t = (h.triangulation.clear e h.there, inr (all_left S e.lo e.hi (apex_none S T e.lo e.hi a (join_own T e (has_of T e h.there)) h.left t)))
+left_border S T e a b h t = (h.triangulation.clear e h.there, inr (all_behind S e.lo e.hi (apex_none S T e.lo e.hi a (join_own T e (has_of T e h.there)) h.left t)))
 
 pub right_border : (S : List Point) (T : List Pair) (e : Pair) (a b : Option ℕ) → HasApexes S T e a b → is_some b ≡ false → IsBorderPair S e.lo e.hi
 right_border S T e a b h t =
-    (h.triangulation.clear e h.there, inl (all_left S e.hi e.lo (apex_none S T e.hi e.lo b (join_back T e.lo e.hi (join_own T e (has_of T e h.there))) h.right t)))
+    (h.triangulation.clear e h.there, inl (all_behind S e.hi e.lo (apex_none S T e.hi e.lo b (join_back T e.lo e.hi (join_own T e (has_of T e h.there))) h.right t)))
 
 pub no_border : (S : List Point) (T : List Pair) (e : Pair) (a b : Option ℕ) → HasApexes S T e a b → is_some a ≡ true → is_some b ≡ true → ¬ IsBorderPair S e.lo e.hi
 no_border S T e a b h f g at = elim at.1 [

@@ -1,3 +1,2 @@
 mod Bordered
-mod Raised
 mod Candidates

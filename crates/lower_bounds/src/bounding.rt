@@ -4,7 +4,7 @@ ghost use Rattle.triangulate.specs.Start.{IsStart};
 ghost use Rattle.lower_bounds.specs.Bounds.{IsBase, IsLowerBound};
 
 use crate::bests::{Search, best};
-use crate::border::border_pairs;
+use crate::border_list::border_pairs;
 use crate::prices::first_certificate;
 use cost_defs::Costs;
 use dual_prices::{Certificate, value};

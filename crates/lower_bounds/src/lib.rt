@@ -3,7 +3,7 @@
 #![tactic(auto)]
 
 mod bests;
-mod border;
+mod border_list;
 mod bounding;
 mod prices;
 

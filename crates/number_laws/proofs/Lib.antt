@@ -5,3 +5,4 @@ pub mod Crosses
 pub mod Sums
 pub mod ListSums
 pub mod Loops
+pub mod Tests

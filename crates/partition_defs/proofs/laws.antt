@@ -6,3 +6,5 @@ pub mod Net
 pub mod Flips
 pub mod Needs
 pub mod Crossings
+pub mod PairOrder
+pub mod Sides

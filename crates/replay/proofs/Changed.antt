@@ -16,7 +16,7 @@ use Rattle.journal_defs.specs.declared.edit.Edit.{Edit}
 use Rattle.journal_defs.specs.declared.edit.Edit.TheVariants.{Drop, Keep, Flip}
 use Rattle.journal_defs.specs.Edits.{State, after, is_end, touches, IsLegal, IsSound}
 use Rattle.journal_defs.proofs.laws.Edits.{sound_after}
-use Rattle.journal_defs.proofs.laws.Members.{untouched, star_alike}
+use Rattle.journal_defs.proofs.laws.Members.{untouched, star_alike, end_of}
 use Rattle.edit.specs.Steps.{puts_in}
 use Rattle.replay.specs.Applied.{IsWithin}
 use Rattle.replay.specs.Machine.{layers}
@@ -24,9 +24,6 @@ use Rattle.replay.specs.Room.{HasRoomFor, spare_at, LosesRoom}
 use Rattle.replay.specs.Followed.{IsReady, HaveFollowed, AreApart}
 use Rattle.replay.specs.Edited.{IsSoundLayout, HasBecome}
 use Rattle.replay.proofs.Followed.{room_lost}
-
-end_of : (e : Pair) (v : ℕ) → is_end e v ≡ true → (e.lo ≡ v) ⊎ (e.hi ≡ v)
-end_of e v h = (Decides-or (nat_eq e.lo v) (nat_eq e.hi v) (Decides-eqb e.lo v) (Decides-eqb e.hi v)).0 h
 
 end_below : (n : ℕ) (e : Pair) (v : ℕ) → e.hi < n → is_end e v ≡ true → v < n
 end_below n e v h is = let o = e.ordered in elim (end_of e v is) [ inl a ↦ omega arith | inr a ↦ omega arith ]

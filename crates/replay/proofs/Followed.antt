@@ -1,7 +1,7 @@
 -- Stars that follow an edit, one after the other.
 use Rattle.std.proofs.Common.{◌≡◌, ℕ, ◌+◌, ◌<◌, ◌≤◌, Bool, true, false, ◌||◌, nat_eq, List, length, set, arith, sym, ◌∙◌, ap, subst, refl, get_or-set_same, get_or-set_other}
 use Rattle.std.proofs.lemmas.List.{length-set}
-use Rattle.std.proofs.lemmas.Bool.{false≢true}
+use Rattle.std.proofs.lemmas.Bool.{false≢true, false_from_ne_true}
 use Rattle.std.proofs.lemmas.Bool.Decides.{Decides-eqb}
 use Rattle.plane.specs.declared.coordinates.Point.{Point}
 use Rattle.plane.specs.declared.segment.Pair.{Pair}
@@ -12,6 +12,7 @@ use Rattle.journal_defs.specs.Edits.{is_end}
 use Rattle.edit.specs.Steps.{IsBefore, IsAfter}
 use Rattle.replay.specs.Followed.{IsReady, HaveFollowed}
 use Rattle.replay.specs.Room.{spare_at, LosesRoom}
+use Rattle.journal_defs.proofs.laws.Members.{ends_apart}
 
 -- one star is written
 pub followed_at : (S : List Point) (e : Edit) (old : List Seen) (v : ℕ) (star : Seen) → v < length old → IsAfter S e (star_at old v) star → HaveFollowed S e (λ w. nat_eq v w) old (set old v star)
@@ -57,17 +58,6 @@ still_ready S e p old mid v moved away h =
       room = λ put. subst (λ (t : Seen). 0 < t.spare) same (h.room put);
     }
 
-pub false_of : (b : Bool) → (b ≡ true → ⊥) → b ≡ false
-false_of true h = absurd (h refl)
-false_of false h = refl
-
--- the two ends of a pair
-pub ends_apart : (e : Pair) (v : ℕ) → nat_eq e.lo v ≡ true → nat_eq e.hi v ≡ true → ⊥
-ends_apart e v a b =
-    let lo : e.lo ≡ v = (Decides-eqb e.lo v).0 a in
-    let hi : e.hi ≡ v = (Decides-eqb e.hi v).0 b in
-    let o = e.ordered in omega arith
-
 -- no star has lost more than one place
 pub room_lost : (S : List Point) (e : Edit) (p : ℕ → Bool) (old new : List Seen) → HaveFollowed S e p old new → LosesRoom 1 old new
 room_lost S e p old new moved v = at (p v) refl
@@ -88,4 +78,4 @@ pub upper_ready : (S : List Point) (e : Edit) (f : Pair) (lo hi : ℕ) (old mid 
     → HaveFollowed S e (λ w. nat_eq lo w) old mid → IsReady S e old f.hi → IsReady S e mid hi
 upper_ready S e f lo hi old mid lower upper first ready =
     let R : ℕ → Type 0 = λ x. IsReady S e mid x in
-    subst R (sym upper) (still_ready S e (λ w. nat_eq lo w) old mid f.hi first (false_of (nat_eq lo f.hi) (λ is. (let same : lo ≡ f.hi = (Decides-eqb lo f.hi).0 is in let o = f.ordered in omega arith))) ready)
+    subst R (sym upper) (still_ready S e (λ w. nat_eq lo w) old mid f.hi first (false_from_ne_true (nat_eq lo f.hi) (λ is. (let same : lo ≡ f.hi = (Decides-eqb lo f.hi).0 is in let o = f.ordered in omega arith))) ready)

@@ -11,7 +11,7 @@ use Rattle.journal_defs.specs.declared.edit.Edit.TheVariants.{Drop}
 use Rattle.journal_defs.specs.Edits.{State, after, IsLegalDrop}
 use Rattle.journal_defs.specs.Journal.{replay, opening, after_all, made, drops, as_drops, IsSwept}
 use Rattle.journal_defs.proofs.laws.Journal.{replay_append}
-use Rattle.journal_defs.proofs.laws.Later.{replay_drops, swept_minimal}
+use Rattle.journal_defs.proofs.laws.Later.{replay_drops, swept_minimal, dropped_count, drops_count}
 use Rattle.replay.specs.declared.machine.TheConstants.{MOST_COMMITS}
 use Rattle.replay.specs.Replayed.{Replayed, IsCore, GrowsBy, IsAsBefore, state_of}
 use Rattle.replay.specs.Swept.{HasSwept, IsSweptOut, IsSweptInPart}
@@ -31,21 +31,11 @@ swept_stays S s (f ∷ pairs) done e (inl (can, (rest, is, later))) not_legal =
     inl (can, (rest, is, swept_stays S (after (Drop f) s) pairs rest e later (λ h. not_legal (subst (λ d. IsLegalDrop S (after_all (as_drops d) s) e) (sym is) h))))
 swept_stays S s (f ∷ pairs) done e (inr (cannot, later)) not_legal = inr (cannot, swept_stays S s pairs done e later not_legal)
 
--- no more go than are tried
-dropped_few : (S : List Point) (s : State) (pairs done : List Pair) → IsSwept S s pairs done → length done ≤ length pairs
-dropped_few S s [] done is = let e = ap length is in omega (arith, e)
-dropped_few S s (f ∷ pairs) done (inl (can, (rest, is, later))) = let e = ap length is in let k = dropped_few S (after (Drop f) s) pairs rest later in omega (arith, e, k)
-dropped_few S s (f ∷ pairs) done (inr (cannot, later)) = let k = dropped_few S s pairs done later in omega (arith, k)
-
 drops_append : (n : ℕ) (d : List Pair) (e : Pair) → drops n (d ++ e ∷ []) ≡ drops n d ++ drops (n + length d) (e ∷ [])
 drops_append n [] e = ap (λ m. drops m (e ∷ [])) (omega arith)
 drops_append n (f ∷ d) e =
     let c : Commit = record { caller = 0; seq = n + 1; edits = Drop f ∷ [] } in
     ap (λ (J : List Commit). c ∷ J) (drops_append (n + 1) d e ∙ ap (λ m. drops (n + 1) d ++ drops m (e ∷ [])) (omega arith))
-
-length_drops : (n : ℕ) (d : List Pair) → length (drops n d) ≡ length d
-length_drops n [] = refl
-length_drops n (f ∷ d) = let k = length_drops (n + 1) d in omega (arith, k)
 
 made_more : (B : List Commit) (n : ℕ) (f : Pair) → made 0 (B ++ record { caller = 0; seq = n + 1; edits = Drop f ∷ [] } ∷ []) ≡ made 0 B + 1
 made_more B n f = sum_by-append (λ (k : Commit). cond (nat_eq k.caller 0) 1 0) B (record { caller = 0; seq = n + 1; edits = Drop f ∷ [] } ∷ [])
@@ -160,8 +150,8 @@ pub sweep_few : (old now : Replayed) (kept : List Pair) (k count : ℕ) → kept
 sweep_few old now kept k count is few h so =
     let a = ap length so.swept.grows.journal in
     let b = length-append old.journal (drops (made 0 old.journal) so.dropped) in
-    let d = length_drops (made 0 old.journal) so.dropped in
-    let t = dropped_few old.points (state_of old) (take k kept) so.dropped so.swept.swept in
+    let d = drops_count (made 0 old.journal) so.dropped in
+    let t = dropped_count old.points (state_of old) (take k kept) so.dropped so.swept.swept in
     let u = length-take k kept in
     let w = ap length is in omega (arith, a, b, d, t, u, w, few, h)
 

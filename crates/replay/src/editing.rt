@@ -11,7 +11,7 @@ ghost use Rattle.replay.specs.Room.{HasRoomFor, HasRoomForAll, IsSameSubdivision
 use crate::changing::change;
 use crate::fault::ApplyFault;
 use crate::reserving::reserve;
-use edit::fits;
+use edit::fits_on_true_stars;
 use journal_defs::{Edit, EditList, Why};
 use plane::Points;
 use subdivision::Subdivision;
@@ -57,7 +57,7 @@ pub fn is_legal(all: &Subdivision, points: &Points, edit: &Edit) -> Result<(), W
     ensures refused { IfErr result (IsFault points.now (layers all.now) edit.now) }
 {
     let _count = points.len();
-    fits(points, all, edit)
+    fits_on_true_stars(points, all, edit)
 }
 
 /// Whether the edit is legal.

@@ -16,7 +16,7 @@ use Rattle.solution_io.specs.declared.fault.SolutionFault.{SolutionFault}
 use Rattle.solution_io.specs.declared.fault.SolutionFault.TheVariants as solution
 use Rattle.solution_io.specs.Refusal.{HasFault as HasEdgesFault}
 use Rattle.solver_top.specs.declared.words.Command.{Command}
-use Rattle.solver_top.specs.declared.words.Command.TheVariants.{Judge, Start, Gen}
+use Rattle.solver_top.specs.declared.words.Command.TheVariants.{Judge, Start, Solve, Check, Part, Gen, GenSolve}
 use Rattle.solver_top.specs.Statuses.{status_of}
 use Rattle.solver_top.specs.declared.status.Status.{Status}
 use Rattle.solver_top.specs.declared.status.Status.TheVariants as status
@@ -32,6 +32,14 @@ use Rattle.solver_top.specs.Bundles.{HasParts, HasBundle, HasRefusal, HasBundleF
 use Rattle.solver_top.specs.Answers.{IsAnswer, IsAnswerOf, IsTooLong, HasInput, most_input}
 use Rattle.solver_top.specs.Judging.{IsJudged, IsRefused}
 use Rattle.solver_top.specs.Starting.{IsStarted, IsRefusedInstance}
+use Rattle.solver_top.specs.Solving.{IsSolveAnswer}
+use Rattle.solver_top.specs.Checking.{IsCheckAnswer, IsPartAnswer}
+use Rattle.report_io.specs.declared.report.Report.{Report}
+use Rattle.report_io.specs.declared.report.Part.{Part as ReportPart}
+use Rattle.report_io.specs.Report.{Gives as GivesReport}
+use Rattle.report_answers.specs.declared.answer.Told.TheVariants as told
+use Rattle.report_answers.specs.Answers.{IsRefusedReport}
+use Rattle.report_answers.proofs.Laws.{report_not_refused}
 
 parts_same : (input : List ℕ) (a b c d : Data) → HasParts input a b → HasParts input c d → (a ≡ c) × (b ≡ d)
 parts_same input a b c d h k =
@@ -68,6 +76,9 @@ not_refused input text (few, (S, K, has)) (refusal, h, e) = no_refusal input S K
 pub not_refused_instance : (input text : List ℕ) → HasInput Start input → IsRefusedInstance input text → ⊥
 not_refused_instance input text (few, (name, S, D, gives, ok)) (f, named, fault, e) = gives_no_fault (instance_from input) name S D f gives ok named fault
 
+pub not_refused_report : (input text : List ℕ) → HasInput Check input → IsRefusedReport input text → ⊥
+not_refused_report input text (few, (r, gives, ok)) (fault, named, h, e) = report_not_refused input r fault ok gives named h
+
 abbrev IsAnswered : Verdict → Type 0
 IsAnswered verdict = (verdict ≡ Done) ⊎ (verdict ≡ No)
 
@@ -83,6 +94,23 @@ started_answer input name S D No text gives ok h = absurd h
 started_answer input name S D Usage text gives ok h = absurd h
 started_answer input name S D Refused text gives ok (f, named, fault, e) = absurd (gives_no_fault (instance_from input) name S D f gives ok named fault)
 
+solve_answer : (E B rounds seed : ℕ) (input : List ℕ) (name : List ℕ) (S : List Point) (D : List Costed) (verdict : Verdict) (text : List ℕ) → Gives (instance_from input) name S D → AreAccepted S
+    → IsSolveAnswer E B rounds seed input verdict text → IsAnswered verdict
+solve_answer E B rounds seed input name S D Done text gives ok h = inl refl
+solve_answer E B rounds seed input name S D No text gives ok h = absurd h
+solve_answer E B rounds seed input name S D Usage text gives ok h = absurd h
+solve_answer E B rounds seed input name S D Refused text gives ok (f, named, fault, e) = absurd (gives_no_fault (instance_from input) name S D f gives ok named fault)
+
+check_answer : (input : List ℕ) (r : Report) (verdict : Verdict) (text : List ℕ) → GivesReport input r → AreAccepted r.instance.points → IsCheckAnswer input verdict text → IsAnswered verdict
+check_answer input r verdict text gives ok (told.Yes, is, h) = inl is
+check_answer input r verdict text gives ok (told.No, is, h) = inr is
+check_answer input r verdict text gives ok (told.Refused, is, (fault, named, h, e)) = absurd (report_not_refused input r fault ok gives named h)
+
+part_answer : (part : ReportPart) (input : List ℕ) (r : Report) (verdict : Verdict) (text : List ℕ) → GivesReport input r → AreAccepted r.instance.points → IsPartAnswer part input verdict text → IsAnswered verdict
+part_answer part input r verdict text gives ok (told.Yes, is, h) = inl is
+part_answer part input r verdict text gives ok (told.No, is, h) = absurd h
+part_answer part input r verdict text gives ok (told.Refused, is, (fault, named, h, e)) = absurd (report_not_refused input r fault ok gives named h)
+
 long_enough : (input : List ℕ) (left : Option (List ℕ)) (verdict : Verdict) (text : List ℕ) → length input ≤ most_input → IsTooLong input left verdict text → ⊥
 long_enough input left verdict text few h = omega (arith, h.0.0)
 
@@ -92,7 +120,14 @@ command_answered Judge input left verdict text (few, (S, K, has)) (inl long) = a
 command_answered Judge input left verdict text (few, (S, K, has)) (inr (len, at_end, h)) = judged_answer input S K verdict text has h
 command_answered Start input left verdict text (few, (name, S, D, gives, ok)) (inl long) = absurd (long_enough input left verdict text few long)
 command_answered Start input left verdict text (few, (name, S, D, gives, ok)) (inr (len, at_end, h)) = started_answer input name S D verdict text gives ok h
+command_answered (Solve e b r s) input left verdict text (few, (name, S, D, gives, ok)) (inl long) = absurd (long_enough input left verdict text few long)
+command_answered (Solve e b r s) input left verdict text (few, (name, S, D, gives, ok)) (inr (len, at_end, h)) = solve_answer e b r s input name S D verdict text gives ok h
+command_answered Check input left verdict text (few, (r, gives, ok)) (inl long) = absurd (long_enough input left verdict text few long)
+command_answered Check input left verdict text (few, (r, gives, ok)) (inr (len, at_end, h)) = check_answer input r verdict text gives ok h
+command_answered (Part name) input left verdict text (few, (r, gives, ok)) (inl long) = absurd (long_enough input left verdict text few long)
+command_answered (Part name) input left verdict text (few, (r, gives, ok)) (inr (len, at_end, h)) = part_answer name input r verdict text gives ok h
 command_answered (Gen kind n seed) input left verdict text has (alone, (done, made)) = inl done
+command_answered (GenSolve kind n seed) input left verdict text has (alone, (done, made)) = inl done
 
 -- words that are a line, and an input that has its reading, are answered by Done or No
 pub is_answered : (words : List (List ℕ)) (command : Command) (input : List ℕ) (left : Option (List ℕ)) (verdict : Verdict) (text : List ℕ) → IsLineOf words command → HasInput command input → IsAnswer words input left verdict text → IsAnswered verdict

@@ -5,3 +5,6 @@ pub mod LineCommands
 pub mod Complete
 pub mod Written
 pub mod LineFaults
+pub mod Headline
+pub mod Reports
+pub mod NoFirstWord

@@ -1,7 +1,7 @@
 -- Facts about the value of a result, carried on.
 use Rattle.mcp_outside.specs.declared.ends.ReadEnd.{ReadEnd}
 use Rattle.mcp_outside.specs.declared.ends.ReadEnd.TheVariants.{Failed, TooLong}
-use Rattle.std.proofs.Common.{◌≡◌, Option, Some, None, Result, Ok, Err, IfOk, OnOk, IfSome, subst, Bool, true, false, ◌⊎◌, inl, inr, refl}
+use Rattle.std.proofs.Common.{◌≡◌, Option, Some, None, Result, Ok, Err, IfOk, OnOk, IfSome, subst}
 
 pub if_ok : {A E : Type 0} (r : Result A E) (P Q : A → Type 0) → IfOk r P → ((x : A) → P x → Q x) → IfOk r Q
 if_ok (Ok x) P Q h f = f x h

@@ -11,6 +11,7 @@ use Rattle.text_defs.specs.Solutions.{edge_of, end_at, edges_of, edges_in, edge_
 use Rattle.text_defs.specs.Steps.{◌>>=◌, or_fault, unless}
 use Rattle.text_defs.specs.Fields.{below, whole_at, pair_of, list_of, array_at}
 use Rattle.instance_io.specs.Refusal.{ends}
+use Rattle.std.proofs.lemmas.Bool.{ltb-true}
 
 abbrev IsSmall : ℕ → ℕ × ℕ → Type 0
 IsSmall n p = p.1 < n
@@ -31,11 +32,8 @@ and_then : {A B : Type 0} (P : A → Type 0) (Q : B → Type 0) (f : A → Optio
 and_then P Q f None h k = tt
 and_then P Q f (Some x) h k = k x h
 
-lt_of_test : (k n : ℕ) → nat_lt k n ≡ true → k < n
-lt_of_test k n h = grind (arith, nat_tests)
-
 below_small : (n : ℕ) (z : ℤ) → OfSome (λ i. i < n) (below n z)
-below_small n (pos k) = some_if (λ i. i < n) (nat_lt k n) k (lt_of_test k n)
+below_small n (pos k) = some_if (λ i. i < n) (nat_lt k n) k (ltb-true k n)
 below_small n (negsuc k) = tt
 
 always : {A : Type 0} (o : Option A) → OfSome (λ _. Unit {0}) o

@@ -9,7 +9,7 @@ use Rattle.cost_defs.specs.Costs.{Costed}
 use Rattle.text_defs.specs.Instances.{instance_from}
 use Rattle.instance_io.specs.Refusal.{Gives}
 use Rattle.solver_top.specs.declared.words.Command.{Command}
-use Rattle.solver_top.specs.declared.words.Command.TheVariants.{Judge, Start, Gen}
+use Rattle.solver_top.specs.declared.words.Command.TheVariants.{Judge, Start, Solve, Check, Part, Gen, GenSolve}
 use Rattle.solver_top.specs.declared.status.Verdict.{Verdict}
 use Rattle.solver_top.specs.declared.status.Verdict.TheVariants.{Done, Usage, Refused}
 use Rattle.solver_top.specs.Words.{IsLineOf, IsFaultAt}
@@ -17,7 +17,12 @@ use Rattle.solver_top.specs.Lines.{usage_line}
 use Rattle.solver_top.specs.Bundles.{HasBundle}
 use Rattle.solver_top.specs.Judging.{IsJudged}
 use Rattle.solver_top.specs.Starting.{IsStarted}
+use Rattle.solver_top.specs.Solving.{IsSolveAnswer}
+use Rattle.solver_top.specs.Checking.{IsCheckAnswer, IsPartAnswer}
 use Rattle.solver_top.specs.Generating.{IsGenerated}
+use Rattle.report_io.specs.declared.report.Report.{Report}
+use Rattle.report_io.specs.Report.{Gives as GivesReport}
+use Rattle.solve_report.specs.Texts.{IsSolvedLine}
 
 -- the greatest input, in bytes
 abbrev pub most_input : ℕ
@@ -36,19 +41,31 @@ ReadsAll Answers input left verdict text =
 abbrev pub IsInRange : Command → Type 0
 IsInRange Judge = Unit {0}
 IsInRange Start = Unit {0}
+IsInRange (Solve edit_workers bound_workers rounds seed) = (edit_workers ≤ 16) × (bound_workers ≤ 16) × ((edit_workers ≡ 0) ⊎ (rounds ≡ 0))
+IsInRange Check = Unit {0}
+IsInRange (Part name) = Unit {0}
 IsInRange (Gen kind n seed) = (3 ≤ n) × (n ≤ 5000)
+IsInRange (GenSolve kind n seed) = (3 ≤ n) × (n ≤ 5000)
 
 -- a command reads its input
 abbrev pub reads_input : Command → Bool
 reads_input Judge = true
 reads_input Start = true
+reads_input (Solve edit_workers bound_workers rounds seed) = true
+reads_input Check = true
+reads_input (Part name) = true
 reads_input (Gen kind n seed) = false
+reads_input (GenSolve kind n seed) = false
 
 -- what a command answers to the input that it read; one that reads none answers the same to each
 abbrev pub IsAnswerTo : Command → List ℕ → Verdict → List ℕ → Type 0
 IsAnswerTo Judge input verdict text = IsJudged input verdict text
 IsAnswerTo Start input verdict text = IsStarted input verdict text
+IsAnswerTo (Solve edit_workers bound_workers rounds seed) input verdict text = IsSolveAnswer edit_workers bound_workers rounds seed input verdict text
+IsAnswerTo Check input verdict text = IsCheckAnswer input verdict text
+IsAnswerTo (Part name) input verdict text = IsPartAnswer name input verdict text
 IsAnswerTo (Gen kind n seed) input verdict text = (verdict ≡ Done) × IsGenerated kind n seed text
+IsAnswerTo (GenSolve kind n seed) input verdict text = (verdict ≡ Done) × IsSolvedLine kind n seed text
 
 -- the input is read to its end, or left alone
 abbrev pub TakesInput : Bool → (List ℕ → Verdict → List ℕ → Type 0) → List ℕ → Option (List ℕ) → Verdict → List ℕ → Type 0
@@ -72,9 +89,21 @@ abbrev pub IsAnswer : List (List ℕ) → List ℕ → Option (List ℕ) → Ver
 IsAnswer words input left verdict text =
     IsUsage words input left verdict text ⊎ ((command : Command) × IsLineOf words command × IsAnswerOf command input left verdict text)
 
+-- the input is an instance, within the limit
+abbrev pub HasInstance : List ℕ → Type 0
+HasInstance input = (length input ≤ most_input)
+    × ((name : List ℕ) × (S : List Point) × (D : List Costed) × Gives (instance_from input) name S D × AreAccepted S)
+
+-- the input is a report, within the limit
+abbrev pub HasReport : List ℕ → Type 0
+HasReport input = (length input ≤ most_input) × ((r : Report) × GivesReport input r × AreAccepted r.instance.points)
+
 -- the input has its reading for the command, within the limit
 abbrev pub HasInput : Command → List ℕ → Type 0
 HasInput Judge input = (length input ≤ most_input) × ((S : List Point) × (K : List Pair) × HasBundle input S K)
-HasInput Start input = (length input ≤ most_input)
-    × ((name : List ℕ) × (S : List Point) × (D : List Costed) × Gives (instance_from input) name S D × AreAccepted S)
+HasInput Start input = HasInstance input
+HasInput (Solve edit_workers bound_workers rounds seed) input = HasInstance input
+HasInput Check input = HasReport input
+HasInput (Part name) input = HasReport input
 HasInput (Gen kind n seed) input = Unit {0}
+HasInput (GenSolve kind n seed) input = Unit {0}

@@ -1,5 +1,4 @@
 -- What a bundle is read as, and why it is refused. (This project's own, after the challenge's files.)
-use Rattle.std.specs.Fmt.{decimal}
 use Rattle.std.specs.Prelude.{◌≡◌, ◌≢◌, ℕ, List, map, length, codes, ◌++◌, Result, Ok, Err}
 use Rattle.serde_json.specs.Data.{Data}
 use Rattle.plane.specs.declared.coordinates.Point.{Point}
@@ -16,7 +15,7 @@ use Rattle.solution_io.specs.declared.fault.SolutionFault.{SolutionFault}
 use Rattle.solution_io.specs.declared.fault.SolutionFault.TheVariants as solution
 use Rattle.instance_io.specs.Refusal.{ends}
 use Rattle.solution_io.specs.Refusal.{HasFault as HasEdgesFault}
-use Rattle.solver_top.specs.Lines.{instance_fault_text}
+use Rattle.fault_texts.specs.Texts.{instance_fault_text, solution_fault_text}
 use Rattle.solver_top.specs.declared.refusals.BundleFault.{BundleFault}
 use Rattle.solver_top.specs.declared.refusals.BundleFault.TheVariants.{NotJson, NoInstance, NoSolution}
 use Rattle.solver_top.specs.declared.refusals.Refusal.{Refusal}
@@ -59,14 +58,6 @@ abbrev pub bundle_fault_text : BundleFault → List ℕ
 bundle_fault_text NotJson = codes "NotJson"
 bundle_fault_text NoInstance = codes "NoInstance"
 bundle_fault_text NoSolution = codes "NoSolution"
-
--- the fault of a solution; want of memory is never printed
-abbrev pub solution_fault_text : SolutionFault → List ℕ
-solution_fault_text solution.NotJson = codes "NotJson"
-solution_fault_text solution.NoEdges = codes "NoEdges"
-solution_fault_text (solution.TooManyEdges c) = codes "TooManyEdges " ++ decimal c
-solution_fault_text (solution.BadEdge k) = codes "BadEdge " ++ decimal k
-solution_fault_text solution.NoMemory = codes "NoMemory"
 
 abbrev pub refusal_line : Refusal → List ℕ
 refusal_line (Bundle f) = codes "refused bundle " ++ (bundle_fault_text f ++ codes "\n")

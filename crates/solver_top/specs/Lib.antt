@@ -4,7 +4,9 @@ pub mod Statuses
 pub mod Bundles
 pub mod Judging
 pub mod Starting
+pub mod Solving
 pub mod Generating
+pub mod Checking
 pub mod Answers
 pub mod Reading
 pub mod WordFaults

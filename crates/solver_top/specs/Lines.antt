@@ -1,23 +1,12 @@
 -- The lines that are printed. (This project's own.)
 use Rattle.std.specs.Prelude.{ℕ, List, ◌++◌, codes}
 use Rattle.std.specs.Fmt.{decimal}
-use Rattle.plane.specs.declared.segment.Pair.{Pair}
-use Rattle.plane.specs.declared.coordinates.BadPoints.{BadPoints}
-use Rattle.plane.specs.declared.coordinates.BadPoints.TheVariants as bad
-use Rattle.instance_io.specs.declared.instances.InstanceFault.{InstanceFault}
-use Rattle.instance_io.specs.declared.instances.InstanceFault.TheVariants as fault
+use Rattle.fault_texts.specs.Texts.{pair_text}
 use Rattle.cp_judge.specs.declared.answer.Judgement.{Judgement}
 use Rattle.cp_judge.specs.declared.answer.Judgement.TheVariants.{Convex, Doubled, NotClear, Crossing, MissingBorder, Unmet}
 
--- a word with its space, and a number
-abbrev pub numbered : List ℕ → ℕ → List ℕ
-numbered word n = word ++ decimal n
-
 abbrev pub usage_line : ℕ → List ℕ
 usage_line k = codes "usage " ++ (decimal k ++ codes "\n")
-
-abbrev pub pair_text : Pair → List ℕ
-pair_text e = decimal e.lo ++ (codes "-" ++ decimal e.hi)
 
 abbrev pub judgement_line : Judgement → List ℕ
 judgement_line (Convex n) = codes "convex partition " ++ (decimal n ++ codes " segments\n")
@@ -26,26 +15,3 @@ judgement_line (NotClear e p) = codes "no NotClear " ++ (pair_text e ++ (codes "
 judgement_line (Crossing e f) = codes "no Crossing " ++ (pair_text e ++ (codes " " ++ (pair_text f ++ codes "\n")))
 judgement_line (MissingBorder e) = codes "no MissingBorder " ++ (pair_text e ++ codes "\n")
 judgement_line (Unmet p q) = codes "no Unmet " ++ (decimal p ++ (codes " " ++ (decimal q ++ codes "\n")))
-
-abbrev pub points_fault_text : BadPoints → List ℕ
-points_fault_text (bad.TooFew n) = numbered (codes "TooFew ") n
-points_fault_text (bad.TooMany n) = numbered (codes "TooMany ") n
-points_fault_text (bad.TooFar i) = numbered (codes "TooFar ") i
-points_fault_text (bad.SamePlace i j) = codes "SamePlace " ++ (decimal i ++ (codes " " ++ decimal j))
-points_fault_text bad.OneLine = codes "OneLine"
-
--- the fault of an instance; want of memory is never printed
-abbrev pub instance_fault_text : InstanceFault → List ℕ
-instance_fault_text fault.NotJson = codes "NotJson"
-instance_fault_text fault.NoName = codes "NoName"
-instance_fault_text (fault.LongName l) = numbered (codes "LongName ") l
-instance_fault_text fault.NoPoints = codes "NoPoints"
-instance_fault_text (fault.BadPoint k) = numbered (codes "BadPoint ") k
-instance_fault_text (fault.NotWhole k) = numbered (codes "NotWhole ") k
-instance_fault_text (fault.MixedIndex k) = numbered (codes "MixedIndex ") k
-instance_fault_text (fault.BadIndex k) = numbered (codes "BadIndex ") k
-instance_fault_text (fault.Bad b) = points_fault_text b
-instance_fault_text fault.BadCosts = codes "BadCosts"
-instance_fault_text (fault.TooManyCosts k) = numbered (codes "TooManyCosts ") k
-instance_fault_text (fault.BadCost k) = numbered (codes "BadCost ") k
-instance_fault_text fault.NoMemory = codes "NoMemory"

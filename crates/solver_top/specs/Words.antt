@@ -1,11 +1,13 @@
 -- The words of the command line, and the lines that they may form. (This project's own.)
-use Rattle.std.specs.Prelude.{◌≡◌, ℕ, ◌+◌, ◌<◌, ◌≤◌, ◌^◌, List, [], ◌∷◌, length, take, map, codes, String, string_bytes, bytes_eq, MatchBool, ◌⊎◌}
+use Rattle.std.specs.Prelude.{◌≡◌, ℕ, ◌+◌, ◌<◌, ◌≤◌, ◌^◌, List, [], ◌∷◌, length, take, map, codes, String, string_bytes, bytes_eq, slice_index_or, MatchBool, ◌⊎◌}
 use Rattle.std.specs.Fmt.{decimal}
 use Rattle.std.specs.declared.alloc.Global.{Global}
 use Rattle.generator.specs.declared.kinds.Kind.{Kind}
 use Rattle.generator.specs.Names.{kind_word}
 use Rattle.solver_top.specs.declared.words.Command.{Command}
-use Rattle.solver_top.specs.declared.words.Command.TheVariants.{Judge, Start, Gen}
+use Rattle.solver_top.specs.declared.words.Command.TheVariants.{Judge, Start, Solve, Check, Part, Gen, GenSolve}
+use Rattle.report_io.specs.declared.report.Part.{Part as ReportPart}
+use Rattle.report_io.specs.declared.report.Part.TheVariants as part
 
 abbrev pub words_of : List (String Global) → List (List ℕ)
 words_of words = map string_bytes words
@@ -20,19 +22,51 @@ IsCount word = (n : ℕ) × (3 ≤ n) × (n ≤ 5000) × (word ≡ decimal n)
 abbrev pub IsSeed : List ℕ → Type 0
 IsSeed word = (seed : ℕ) × (seed < 2 ^ 64) × (word ≡ decimal seed)
 
+abbrev pub IsWorkers : List ℕ → Type 0
+IsWorkers word = (n : ℕ) × (n ≤ 16) × (word ≡ decimal n)
+
+-- a part of a report by its word
+abbrev pub part_word : ReportPart → List ℕ
+part_word part.Instance = codes "instance"
+part_word part.Solution = codes "solution"
+part_word part.Certificate = codes "certificate"
+part_word part.Journal = codes "journal"
+part_word part.Summary = codes "summary"
+
+abbrev pub IsPartWord : List ℕ → Type 0
+IsPartWord word = (name : ReportPart) × (word ≡ part_word name)
+
+-- rounds, behind the number of edit workers: these make none yet, so beside them there are none
+abbrev pub IsRounds : (edit_workers word : List ℕ) → Type 0
+IsRounds edit_workers word = (n : ℕ) × (n ≤ 1000) × ((edit_workers ≡ decimal 0) ⊎ (n ≡ 0)) × (word ≡ decimal n)
+
+-- what the lines have behind their first word
+abbrev pub solve_words : List (List ℕ) → List (List ℕ → Type 0)
+solve_words words = IsWorkers ∷ IsWorkers ∷ IsRounds (slice_index_or words 0 []) ∷ IsSeed ∷ []
+
+abbrev pub part_words : List (List ℕ → Type 0)
+part_words = IsPartWord ∷ []
+
+abbrev pub gen_words : List (List ℕ → Type 0)
+gen_words = IsKind ∷ IsCount ∷ IsSeed ∷ []
+
 -- the words begin with what a line may have, each at its place
 abbrev pub Begins : List (List ℕ → Type 0) → List (List ℕ) → Type 0
 Begins line [] = Unit {0}
 Begins [] (word ∷ words) = ⊥
 Begins (May ∷ line) (word ∷ words) = May word × Begins line words
 
--- what holds of the words behind a first word, by what its lines may have there: the lines are `judge`, `start`, and
--- `gen KIND N SEED`
+-- what holds of the words behind a first word, by what its lines may have there: the lines are `judge`, `start`,
+-- `solve E B ROUNDS SEED`, `check`, `part NAME`, `gen KIND N SEED` and `gen-solve KIND N SEED`
 abbrev pub OfALine : (List (List ℕ → Type 0) → List (List ℕ) → Type 0) → List ℕ → List (List ℕ) → Type 0
 OfALine Holds first words =
     MatchBool (bytes_eq first (codes "judge")) (Holds [] words)
     (MatchBool (bytes_eq first (codes "start")) (Holds [] words)
-    (MatchBool (bytes_eq first (codes "gen")) (Holds (IsKind ∷ IsCount ∷ IsSeed ∷ []) words) ⊥))
+    (MatchBool (bytes_eq first (codes "solve")) (Holds (solve_words words) words)
+    (MatchBool (bytes_eq first (codes "check")) (Holds [] words)
+    (MatchBool (bytes_eq first (codes "part")) (Holds part_words words)
+    (MatchBool (bytes_eq first (codes "gen")) (Holds gen_words words)
+    (MatchBool (bytes_eq first (codes "gen-solve")) (Holds gen_words words) ⊥))))))
 
 -- the words begin some line
 abbrev pub BeginsALine : List (List ℕ) → Type 0
@@ -43,6 +77,12 @@ BeginsALine (first ∷ words) = OfALine Begins first words
 abbrev pub IsLineOf : List (List ℕ) → Command → Type 0
 IsLineOf words Judge = words ≡ codes "judge" ∷ []
 IsLineOf words Start = words ≡ codes "start" ∷ []
+IsLineOf words (Solve edit_workers bound_workers rounds seed) =
+    (words ≡ codes "solve" ∷ decimal edit_workers ∷ decimal bound_workers ∷ decimal rounds ∷ decimal seed ∷ [])
+    × (edit_workers ≤ 16) × (bound_workers ≤ 16) × (rounds ≤ 1000) × ((edit_workers ≡ 0) ⊎ (rounds ≡ 0)) × (seed < 2 ^ 64)
+IsLineOf words Check = words ≡ codes "check" ∷ []
+IsLineOf words (Part name) = words ≡ codes "part" ∷ part_word name ∷ []
+IsLineOf words (GenSolve kind n seed) = (words ≡ codes "gen-solve" ∷ kind_word kind ∷ decimal n ∷ decimal seed ∷ []) × (3 ≤ n) × (n ≤ 5000) × (seed < 2 ^ 64)
 IsLineOf words (Gen kind n seed) = (words ≡ codes "gen" ∷ kind_word kind ∷ decimal n ∷ decimal seed ∷ []) × (3 ≤ n) × (n ≤ 5000) × (seed < 2 ^ 64)
 
 -- the words are the line of no command

@@ -17,6 +17,8 @@ pub use arguments::words_after_name;
 pub use bundles::{Bundle, read_bundle};
 pub use commands::generating::generated;
 pub use commands::judging::judged;
+pub use commands::refusing::refused_instance;
+pub use commands::solving::{solved, solved_made};
 pub use commands::starting::started;
 pub use refusals::{BundleFault, Refusal, Unread};
 pub use running::{MOST_INPUT, run};

@@ -9,6 +9,8 @@ ghost use Rattle.plane.specs.declared.segment.Pair.{Pair};
 ghost use Rattle.partition_defs.specs.Partition.{IsConvexPartition};
 ghost use Rattle.partition_defs.specs.Triangulation.{AreDistinct};
 ghost use Rattle.generator.specs.declared.kinds.Kind.{Kind};
+ghost use Rattle.solve_report.specs.Headline.{IsConvexThroughout, IsLastAndMinimal, NoneIsBelowBound, TellsOptimal};
+ghost use Rattle.solve_report.specs.Texts.{IsSolvedLine};
 ghost use Rattle.solver_top.specs.Words.{words_of, IsLineOf, IsNoLine};
 ghost use Rattle.solver_top.specs.Bundles.{HasBundle};
 ghost use Rattle.solver_top.specs.Lines.{usage_line, judgement_line};
@@ -17,17 +19,23 @@ ghost use Rattle.solver_top.specs.Answers.{IsAnswer, IsAnswerOf, IsAnswerTo, Rea
 ghost use Rattle.solver_top.specs.Answers.{HasInput, reads_input, most_input};
 ghost use Rattle.solver_top.specs.Judging.{IsJudged};
 ghost use Rattle.solver_top.specs.Starting.{IsStarted};
+ghost use Rattle.solver_top.specs.Solving.{IsSolveAnswer, IsSolvedFrom, Reports};
+ghost use Rattle.solver_top.specs.Checking.{IsCheckAnswer, IsPartAnswer, TellsReport};
 ghost use Rattle.solver_top.specs.Generating.{IsGenerated};
+ghost use Rattle.report_io.specs.declared.report.Part.{Part as ReportPart};
 
 use crate::answers::Answer;
+use crate::commands::checking::{checked, parted};
 use crate::commands::generating::generated;
 use crate::commands::judging::judged;
+use crate::commands::solving::{solved, solved_made};
 use crate::commands::starting::started;
 use crate::lines::usage_line;
 use crate::status::{Status, Verdict};
 use crate::words::{Command, read_words};
 use cp_judge::Judgement;
 use mcp_outside::{Gate, NoMemory, ReadEnd, Sink, Source, Steps, read_all, write_all};
+use solve_report::Search;
 use std::alloc::Global;
 use std::marker::Brand;
 use std::sync::ledger::{Blank, Ledger};
@@ -141,9 +149,10 @@ fn input_of<I: Source, L: Ledger>(
     }
 }
 
-// What a command answers to an input that was read, or to none. Commands with workers take the runtime and the gate.
+// What a command answers to an input that was read, or to none. Commands with workers take the runtime; those whose
+// workers share a board will take the gate.
 fn work<R: Threads + Sync, G: Gate + Sync>(
-    _rt: &R,
+    rt: &R,
     alloc: Global,
     command: Command,
     bytes: &[u8],
@@ -155,7 +164,23 @@ fn work<R: Threads + Sync, G: Gate + Sync>(
     match command {
         Command::Judge => judged(alloc, bytes),
         Command::Start => started(alloc, bytes),
+        Command::Solve {
+            edit_workers,
+            bound_workers,
+            rounds,
+            seed,
+        } => {
+            let search = Search {
+                workers: bound_workers,
+                rounds,
+                seed,
+            };
+            solved(rt, alloc, bytes, edit_workers, search)
+        }
+        Command::Check => checked(alloc, bytes),
+        Command::Part(part) => parted(alloc, bytes, part),
         Command::Gen { kind, n, seed } => generated(alloc, kind, n, seed),
+        Command::GenSolve { kind, n, seed } => solved_made(rt, alloc, kind, n, seed),
     }
 }
 
@@ -240,6 +265,22 @@ pub fn run<R: Threads + Sync, I: Source, O: Sink, G: Gate + Sync>(
     ensures start { (xs : List ℕ) → IsLineOf (words_of words.now) Command.Start → I.left input.old ≡ Some xs →
         HasText result → (verdict : Verdict) × (text : List ℕ) × ReadsAll IsStarted xs (I.left input.new) verdict text
         × IsWritten result verdict text (O.contents out.old) (O.contents out.new) }
+    ensures solve { (xs : List ℕ) (E B rounds seed : ℕ) →
+        IsLineOf (words_of words.now) (Command.Solve E B rounds seed) → I.left input.old ≡ Some xs →
+        HasText result → (verdict : Verdict) × (text : List ℕ)
+        × ReadsAll (IsSolveAnswer E B rounds seed) xs (I.left input.new) verdict text
+        × IsWritten result verdict text (O.contents out.old) (O.contents out.new) }
+    ensures check { (xs : List ℕ) → IsLineOf (words_of words.now) Command.Check → I.left input.old ≡ Some xs →
+        HasText result → (verdict : Verdict) × (text : List ℕ) × ReadsAll IsCheckAnswer xs (I.left input.new) verdict text
+        × IsWritten result verdict text (O.contents out.old) (O.contents out.new) }
+    ensures part { (xs : List ℕ) (part : ReportPart) → IsLineOf (words_of words.now) (Command.Part part) →
+        I.left input.old ≡ Some xs → HasText result → (verdict : Verdict) × (text : List ℕ)
+        × ReadsAll (IsPartAnswer part) xs (I.left input.new) verdict text
+        × IsWritten result verdict text (O.contents out.old) (O.contents out.new) }
+    ensures generated_solved { (kind : Kind) (n seed : ℕ) →
+        IsLineOf (words_of words.now) (Command.GenSolve kind n seed) →
+        (input.new ≡ input.old) × (HasText result → (text : List ℕ) × IsSolvedLine kind n seed text
+        × IsWritten result Verdict.Done text (O.contents out.old) (O.contents out.new)) }
     ensures generated { (kind : Kind) (n seed : ℕ) → IsLineOf (words_of words.now) (Command.Gen kind n seed) →
         (input.new ≡ input.old) × (HasText result → (text : List ℕ) × IsGenerated kind n seed text
         × IsWritten result Verdict.Done text (O.contents out.old) (O.contents out.new)) }
@@ -249,6 +290,34 @@ pub fn run<R: Threads + Sync, I: Source, O: Sink, G: Gate + Sync>(
         (S : List Point) × (K : List Pair) × HasBundle xs S K × AreDistinct K × IsConvexPartition S K
         × (I.left input.new ≡ Some [])
         × Appends (O.contents out.old) (O.contents out.new) (judgement_line (Judgement.Convex (length K))) }
+    // The headline. At Done `solve` has written the text of the report of one instance, start, journal, solution and
+    // certificate: the instance is the one that was read, these are a solved instance, and the certificate is the best
+    // that its bound workers find.
+    ensures headline { (xs : List ℕ) (E B rounds seed : ℕ) → I.left input.old ≡ Some xs →
+        IsLineOf (words_of words.now) (Command.Solve E B rounds seed) → result ≡ Status.Done →
+        (I.left input.new ≡ Some [])
+        × Reports (IsSolvedFrom xs E B rounds seed) (O.contents out.old) (O.contents out.new) }
+    // After each beginning of the printed journal the kept segments are a convex partition.
+    ensures history { (xs : List ℕ) (E B rounds seed : ℕ) → I.left input.old ≡ Some xs →
+        IsLineOf (words_of words.now) (Command.Solve E B rounds seed) → result ≡ Status.Done →
+        Reports IsConvexThroughout (O.contents out.old) (O.contents out.new) }
+    // The printed solution is the last of them, and no segment of it can be removed.
+    ensures last { (xs : List ℕ) (E B rounds seed : ℕ) → I.left input.old ≡ Some xs →
+        IsLineOf (words_of words.now) (Command.Solve E B rounds seed) → result ≡ Status.Done →
+        Reports IsLastAndMinimal (O.contents out.old) (O.contents out.new) }
+    // No convex partition costs less than the printed bound.
+    ensures bound { (xs : List ℕ) (E B rounds seed : ℕ) → I.left input.old ≡ Some xs →
+        IsLineOf (words_of words.now) (Command.Solve E B rounds seed) → result ≡ Status.Done →
+        Reports NoneIsBelowBound (O.contents out.old) (O.contents out.new) }
+    // Optimal is printed exactly where the solution costs what the bound says.
+    ensures optimal { (xs : List ℕ) (E B rounds seed : ℕ) → I.left input.old ≡ Some xs →
+        IsLineOf (words_of words.now) (Command.Solve E B rounds seed) → result ≡ Status.Done →
+        Reports TellsOptimal (O.contents out.old) (O.contents out.new) }
+    // At Done `check` has read a report whose solution is a convex partition from which no segment can be removed, and the
+    // end of its journal; no convex partition costs less than its bound.
+    ensures told { (xs : List ℕ) → I.left input.old ≡ Some xs → IsLineOf (words_of words.now) Command.Check →
+        result ≡ Status.Done →
+        (I.left input.new ≡ Some []) × TellsReport xs (O.contents out.old) (O.contents out.new) }
     // Words that are a line and an input that has its reading are answered by Done or No, where nothing fails.
     ensures complete { (xs : List ℕ) (command : Command) → I.left input.old ≡ Some xs →
         IsLineOf (words_of words.now) command →

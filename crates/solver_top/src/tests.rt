@@ -1,4 +1,5 @@
 mod refusals;
+mod solving;
 
 use crate::{Status, run};
 use mcp_outside::{MemorySink, MemorySource, OpenGate};

@@ -1,13 +1,20 @@
 // The words of the command line.
-ghost use Rattle.std.specs.Prelude.{◌≡◌, ◌≢◌, ◌↔◌, ℕ, ◌+◌, ◌<◌, ◌≤◌, length, IfOk, IfErr, IsTrue, MatchOption, ◌∷◌, codes};
-ghost use Rattle.std.specs.Fmt.{decimal};
-ghost use Rattle.generator.specs.Names.{kind_word};
+
+mod made;
+mod numbers;
+mod part;
+mod solve;
+
+ghost use Rattle.std.specs.Prelude.{◌≡◌, IfOk, IfErr, ◌∷◌, codes};
 ghost use Rattle.solver_top.specs.Answers.{reads_input};
-ghost use Rattle.solver_top.specs.Words.{words_of, IsLineOf, IsFaultAt, IsCount};
+ghost use Rattle.solver_top.specs.Words.{words_of, IsLineOf, IsFaultAt};
 ghost use Rattle.solver_top.specs.WordFaults.{IsLineFaultAt};
 
+use self::made::{after_gen, after_gen_solve};
+use self::part::after_part;
+use self::solve::after_solve;
 use generator::Kind;
-use itoa::Buffer;
+use report_answers::Part;
 
 /// A line of words that the program knows, with its numbers. (This project's own.)
 #[derive(Clone, Copy, Debug, PartialEq, Eq)]
@@ -16,8 +23,32 @@ pub enum Command {
     Judge,
     /// `start`: writes the sweep triangulation of an instance.
     Start,
+    /// `solve E B ROUNDS SEED`: solves an instance and writes the report.
+    Solve {
+        /// How many edit workers, at most 16.
+        edit_workers: u32,
+        /// How many bound workers, at most 16.
+        bound_workers: u32,
+        /// How many rounds each worker makes, at most 1,000; so far 0 where there are edit workers.
+        rounds: u32,
+        /// Any number of 64 bits.
+        seed: u64,
+    },
+    /// `check`: says whether a report is right, or which part of it fails first.
+    Check,
+    /// `part NAME`: writes one line of a report.
+    Part(Part),
     /// `gen KIND N SEED`: writes an instance made from a number.
     Gen {
+        /// The kind, by its word.
+        kind: Kind,
+        /// How many points, from 3 to 5,000.
+        n: u32,
+        /// Any number of 64 bits.
+        seed: u64,
+    },
+    /// `gen-solve KIND N SEED`: writes the summary of such an instance's report.
+    GenSolve {
         /// The kind, by its word.
         kind: Kind,
         /// How many points, from 3 to 5,000.
@@ -33,41 +64,10 @@ impl Command {
         ensures { result ≡ reads_input self }
     {
         match self {
-            Command::Judge | Command::Start => true,
-            Command::Gen { .. } => false,
+            Command::Judge | Command::Start | Command::Solve { .. } => true,
+            Command::Check | Command::Part(_) => true,
+            Command::Gen { .. } | Command::GenSolve { .. } => false,
         }
-    }
-}
-
-// The number that a word is, without sign or leading zero, from the least to the most.
-fn number(word: &str, least: u64, most: u64) -> Option<u64>
-    ensures { MatchOption result ((n : ℕ) → least ≤ n → n ≤ most → word.now ≢ decimal n)
-        (λ n. (least ≤ n) × (n ≤ most) × (word.now ≡ decimal n)) }
-{
-    let Ok(n) = word.parse::<u64>() else {
-        return None;
-    };
-    if n < least || n > most {
-        return None;
-    }
-    if is_decimal(word, n) { Some(n) } else { None }
-}
-
-fn is_decimal(word: &str, n: u64) -> bool
-    ensures { IsTrue result ↔ (word.now ≡ decimal n) }
-{
-    Buffer::new().format(n) == word
-}
-
-fn kind_of(word: &str) -> Option<Kind>
-    ensures { MatchOption result ((kind : _) → word.now ≢ kind_word kind) (λ kind. word.now ≡ kind_word kind) }
-{
-    match word {
-        "scatter" => Some(Kind::Scatter),
-        "grid" => Some(Kind::Grid),
-        "ring" => Some(Kind::Ring),
-        "wide" => Some(Kind::Wide),
-        _ => None,
     }
 }
 
@@ -90,7 +90,11 @@ fn by_first_word(words: &[String]) -> Result<Command, usize>
         [first, rest @ ..] => match first.as_str() {
             "judge" => after_judge(rest),
             "start" => after_start(rest),
+            "solve" => after_solve(rest),
+            "check" => after_check(rest),
+            "part" => after_part(rest),
             "gen" => after_gen(rest),
+            "gen-solve" => after_gen_solve(rest),
             _ => Err(0),
         },
     }
@@ -120,70 +124,14 @@ fn after_start(rest: &[String]) -> Result<Command, usize>
     }
 }
 
-// What stands behind `gen`.
-fn after_gen(rest: &[String]) -> Result<Command, usize>
-    ensures ok { IfOk result (IsLineOf (codes "gen" ∷ words_of rest.now)) }
-    ensures err { IfErr result (IsLineFaultAt (codes "gen" ∷ words_of rest.now)) }
-{
-    match rest {
-        [] => Err(1),
-        [word, rest @ ..] => match kind_of(word.as_str()) {
-            Some(kind) => after_kind(kind, rest),
-            None => Err(1),
-        },
-    }
-}
-
-// What stands behind `gen KIND`.
-fn after_kind(kind: Kind, rest: &[String]) -> Result<Command, usize>
-    ensures ok { IfOk result (IsLineOf (codes "gen" ∷ kind_word kind ∷ words_of rest.now)) }
-    ensures err { IfErr result (IsLineFaultAt (codes "gen" ∷ kind_word kind ∷ words_of rest.now)) }
-{
-    match rest {
-        [] => Err(2),
-        [word, rest @ ..] => match count_of(word.as_str()) {
-            Some(n) => after_count(kind, n, rest),
-            None => Err(2),
-        },
-    }
-}
-
-// The count of points that a word is.
-fn count_of(word: &str) -> Option<u32>
-    ensures { MatchOption result (¬ IsCount word.now) (λ n. (3 ≤ n) × (n ≤ 5000) × (word.now ≡ decimal n)) }
-{
-    match number(word, 3, 5000) {
-        Some(n) => Some(n as u32),
-        None => None,
-    }
-}
-
-// What stands behind `gen KIND N`.
-fn after_count(kind: Kind, n: u32, rest: &[String]) -> Result<Command, usize>
-    requires least { 3 ≤ n }
-    requires most { n ≤ 5000 }
-    ensures ok { IfOk result (IsLineOf (codes "gen" ∷ kind_word kind ∷ decimal n ∷ words_of rest.now)) }
-    ensures err { IfErr result (IsLineFaultAt (codes "gen" ∷ kind_word kind ∷ decimal n ∷ words_of rest.now)) }
-{
-    match rest {
-        [] => Err(3),
-        [word, rest @ ..] => match number(word.as_str(), 0, u64::MAX) {
-            Some(seed) => after_seed(kind, n, seed, rest),
-            None => Err(3),
-        },
-    }
-}
-
-// What stands behind `gen KIND N SEED`.
-fn after_seed(kind: Kind, n: u32, seed: u64, rest: &[String]) -> Result<Command, usize>
-    requires least { 3 ≤ n }
-    requires most { n ≤ 5000 }
-    ensures ok { IfOk result (IsLineOf (codes "gen" ∷ kind_word kind ∷ decimal n ∷ decimal seed ∷ words_of rest.now)) }
-    ensures err { IfErr result (IsLineFaultAt (codes "gen" ∷ kind_word kind ∷ decimal n ∷ decimal seed ∷ words_of rest.now)) }
+// What stands behind `check`.
+fn after_check(rest: &[String]) -> Result<Command, usize>
+    ensures ok { IfOk result (IsLineOf (codes "check" ∷ words_of rest.now)) }
+    ensures err { IfErr result (IsLineFaultAt (codes "check" ∷ words_of rest.now)) }
 {
     if rest.is_empty() {
-        Ok(Command::Gen { kind, n, seed })
+        Ok(Command::Check)
     } else {
-        Err(4)
+        Err(1)
     }
 }

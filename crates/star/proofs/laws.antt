@@ -4,3 +4,4 @@ pub mod Marks
 pub mod StarOf
 pub mod Needs
 pub mod Apexes
+pub mod Between

@@ -14,7 +14,7 @@ use Rattle.std.proofs.lemmas.List.Kept.{AllPairs-cons}
 use Rattle.std.proofs.lemmas.Map.Keys.{IsDistinct-from_apart}
 use Rattle.std.proofs.lemmas.Map.Made.{length-le_from_is_member}
 use Rattle.plane.specs.declared.segment.Pair.{Pair, ordered-type}
-use Rattle.plane.proofs.laws.Pairs.{pair_same}
+use Rattle.plane.proofs.laws.Pairs.{pair_same, made}
 use Rattle.partition_defs.specs.Triangulation.{AreDistinct}
 use Rattle.triangulate.specs.Sides.{UpTo}
 use Rattle.triangulate.specs.Front.{Links}
@@ -119,9 +119,6 @@ distinct_from xs d = IsDistinct-from_apart same xs
     (λ e. d i j x hij hj (ap₂ (λ (a b : ℕ). (let u : Key = (a, b) in u))
     (first_of_true (get_or xs i x).0 (get_or xs i x).1 (get_or xs j x).0 (get_or xs j x).1 e)
     (second_of_true (get_or xs i x).0 (get_or xs i x).1 (get_or xs j x).0 (get_or xs j x).1 e))))
-
-made : (a b : ℕ) → ordered-type a b → Pair
-made a b o = record { lo = a; hi = b; ordered = o }
 
 pub pairs_distinct : (B : List Pair) → AreDistinct B → AllPairs (λ (x y : Key). x ≢ y) (map ends B)
 pairs_distinct B d i j x hij hj e =

@@ -9,7 +9,6 @@ pub mod Moves
 pub mod Final
 pub mod Places
 pub mod Triangulated
-pub mod Placed
 pub mod Seen
 pub mod Joined
 pub mod Added

@@ -8,7 +8,7 @@ use Rattle.plane.specs.Geometry.{orientation}
 use Rattle.plane.specs.Accepted.{AreApart, AreAccepted}
 use Rattle.partition_defs.specs.Partition.{Joins}
 use Rattle.partition_defs.specs.Sweep.{IsSweptBefore}
-use Rattle.triangulate.specs.Order.{IsSweepOrder}
+use Rattle.point_order.specs.Order.{IsSweepOrder}
 use Rattle.triangulate.specs.Sides.{UpTo}
 use Rattle.triangulate.specs.Swept.{opposite, IsSwept, IsSweptNext}
 use Rattle.triangulate.proofs.Field.{Setting, not_both}

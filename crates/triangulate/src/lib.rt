@@ -3,7 +3,6 @@
 #![tactic(auto)]
 
 mod chain;
-mod order;
 mod starting;
 mod sweep;
 

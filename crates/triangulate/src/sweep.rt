@@ -2,14 +2,14 @@
 ghost use Rattle.std.specs.Prelude.{◌≡◌, ◌<◌, ℕ, List, length, IsTrue, ◌↔◌, pos, ◌<ℤ◌, MatchOption, IfOk, [], ◌∷◌, ◌+◌};
 ghost use Rattle.std.specs.List.{All};
 ghost use Rattle.plane.specs.Accepted.{AreAccepted};
-ghost use Rattle.triangulate.specs.Order.{IsSweepOrder};
+ghost use Rattle.point_order.specs.Order.{IsSweepOrder};
 ghost use Rattle.triangulate.specs.Start.{IsStart};
 ghost use Rattle.triangulate.specs.Swept.{turn, Round, IsJoining, IsSettled, SeesLastSide};
 ghost use Rattle.triangulate.specs.Swept.{IsSwept, IsSweptNext, IsSweptWhole};
 
 use crate::chain::Chain;
-use crate::order::sweep_order;
 use plane::{Pair, Points, Turn};
+use point_order::in_order;
 use std::alloc::{AllocError, Global};
 
 /// A part of the border: the lower or the upper chain, from the first point of the sweep to the last.
@@ -128,7 +128,7 @@ fn sweep_through(alloc: Global, points: &Points, order: &[u32]) -> Result<Sweep,
 pub fn sweep_pairs(alloc: Global, points: &Points) -> Result<Vec<Pair>, AllocError>
     ensures { IfOk result (λ v. IsStart points.now v.items) }
 {
-    let order = sweep_order(alloc, points)?;
+    let order = in_order(alloc, points)?;
     let sweep = sweep_through(alloc, points, &order)?;
     Ok(sweep.pairs)
 }

@@ -11,10 +11,11 @@ use Rattle.atomic_table.specs.Table.{State, Me, step, Act, keeps, takes, gives, 
 use Rattle.atomic_table.proofs.Lists.{set_here, set_else, exchanged, at_last, at_longer}
 use Rattle.index_sets.specs.Indices.{contains, all_but, numbers_from}
 use Rattle.index_sets.specs.Owners.{handed, merged, one_of, rest_of}
-use Rattle.index_sets.proofs.Laws.{is_false, contains-first, contains-other, contains-snoc, contains-snoc-other, contains-all_but, contains-all_but-other, contains-left, contains-right, contains-append, contains-one, contains-empty, numbers_from-least, numbers_from-most, numbers_from-all, length-numbers_from, handed-here, handed-else, handed-others, merged-old, merged-else, IsCut-first, get_elem?-inside, get_elem?-snoc, each-set}
+use Rattle.index_sets.proofs.Laws.{contains-first, contains-other, contains-snoc, contains-snoc-other, contains-all_but, contains-all_but-other, contains-left, contains-right, contains-append, contains-one, contains-empty, numbers_from-least, numbers_from-most, numbers_from-all, length-numbers_from, handed-here, handed-else, handed-others, merged-old, merged-else, IsCut-first, get_elem?-inside, get_elem?-snoc, each-set}
 use Rattle.vertex_claims.specs.declared.table.View.{View}
 use Rattle.vertex_claims.specs.declared.table.About.{About}
 use Rattle.vertex_claims.specs.Kept.{first_view, many, without_number, with_number, both, spent, Owned, won, missed, at_rest, given, Holds, Knows, IsFilled, Kept, tried, laid, lifted, backed}
+use Rattle.std.proofs.lemmas.Bool.{false_from_ne_true}
 
 module _ {R C : Type 0} (fits : R → ℕ → C → Type 0) (a : About R) where
   abbrev V : Type 0
@@ -144,7 +145,7 @@ module _ {R C : Type 0} (fits : R → ℕ → C → Type 0) (a : About R) where
           held = k.held;
           empty = k.empty;
         },
-        ((λ hit. absurd (miss hit)), λ ne. record { least = (let nz : x ≢ 0 = ne in omega arith); most = subst (λ z. x ≤ z) (sym told.callers) (r.within i near); another = is_false (contains v.numbers x) (λ q. true≢false (sym (k.held i near q) ∙ free)); after = refl }),
+        ((λ hit. absurd (miss hit)), λ ne. record { least = (let nz : x ≢ 0 = ne in omega arith); most = subst (λ z. x ≤ z) (sym told.callers) (r.within i near); another = false_from_ne_true (contains v.numbers x) (λ q. true≢false (sym (k.held i near q) ∙ free)); after = refl }),
       ))
     where
       no_some : (l : ℕ) → None ≡ Some l → ⊥
@@ -287,7 +288,7 @@ module _ {R C : Type 0} (fits : R → ℕ → C → Type 0) (a : About R) where
               here = subst (λ z. get_elem? (set s.views id stay ++ go ∷ []) z ≡ some go) (sym (handed-here r.owner (n ∷ []) new m gone)) (at_last (set s.views id stay) go new (length-set s.views id stay));
               mine = ap (λ l. contains l m) one_is ∙ gone;
             })
-            (λ ne. let o = r.full m p q in let left : contains (n ∷ []) m ≡ false = is_false (contains (n ∷ []) m) (λ t. ne (contains-one n m t)) in let was = handed-else r.owner (n ∷ []) new m left in dite (ℕ_discrete (r.owner m) id)
+            (λ ne. let o = r.full m p q in let left : contains (n ∷ []) m ≡ false = false_from_ne_true (contains (n ∷ []) m) (λ t. ne (contains-one n m t)) in let was = handed-else r.owner (n ∷ []) new m left in dite (ℕ_discrete (r.owner m) id)
             (λ e. let same : v ≡ o.view = some-injective v o.view (sym at ∙ (ap (get_elem? s.views) (sym e) ∙ o.here)) in record {
               view = stay;
               here = subst (λ z. get_elem? (set s.views id stay ++ go ∷ []) z ≡ some stay) (sym (was ∙ e)) (at_longer (set s.views id stay) (go ∷ []) id stay (set_here s.views id stay (get_elem?-inside s.views id v at)));

@@ -4,13 +4,14 @@ use Rattle.atomic_table.specs.Table.{Me, Splits}
 use Rattle.atomic_table.specs.Seated.{TableId}
 use Rattle.index_sets.specs.Indices.{contains, all_but, HasNoRepeat, numbers_from}
 use Rattle.index_sets.specs.Owners.{one_of, rest_of}
-use Rattle.index_sets.proofs.Laws.{is_false, contains-first, contains-one, contains-append, all_but-is_other, all_but-snoc, HasNoRepeat-snoc, HasNoRepeat-all_but, HasNoRepeat-numbers_from, numbers_from-least, numbers_from-all, numbers_from-snoc}
+use Rattle.index_sets.proofs.Laws.{contains-first, contains-one, contains-append, all_but-is_other, all_but-snoc, HasNoRepeat-snoc, HasNoRepeat-all_but, HasNoRepeat-numbers_from, numbers_from-least, numbers_from-all, numbers_from-snoc}
 use Rattle.vertex_claims.specs.declared.table.View.{View}
 use Rattle.vertex_claims.specs.declared.table.About.{About}
 use Rattle.vertex_claims.specs.Holding.{IsAnother, IsHolder, new_holder}
 use Rattle.vertex_claims.specs.Kept.{Kept, first_view, without_number, with_number, won, missed, at_rest, given, Lost}
 use Rattle.vertex_claims.specs.Resting.{named, holder_of, IsResting, IsLaying, IsDealing}
 use Rattle.vertex_claims.proofs.Moves.{cuts}
+use Rattle.std.proofs.lemmas.Bool.{false_from_ne_true}
 
 dealing-numbers : (next n : ℕ) → next ≤ n → numbers_from next (n + 1 - next) ≡ next ∷ numbers_from (next + 1) (n + 1 - (next + 1))
 dealing-numbers next n le =
@@ -92,7 +93,7 @@ module _ {R C : Type 0} (fits : R → ℕ → C → Type 0) (a : About R) where
 
     pub dealing_cuts : (id : ℕ) → next ≤ a.callers → Splits (Kept fits a) id m.0 (without_number m.0) (with_number m.0)
     dealing_cuts id le = cuts fits a id next (numbers_from (next + 1) (a.callers + 1 - (next + 1))) m.0 (dealing-is le)
-        (is_false (contains (numbers_from (next + 1) (a.callers + 1 - (next + 1))) next) (λ t. let z = numbers_from-least (next + 1) (a.callers + 1 - (next + 1)) next t in absurd (omega arith)))
+        (false_from_ne_true (contains (numbers_from (next + 1) (a.callers + 1 - (next + 1))) next) (λ t. let z = numbers_from-least (next + 1) (a.callers + 1 - (next + 1)) next t in absurd (omega arith)))
         (ap (λ (x : Mine R C). x.0.places) d)
 
     pub dealing_next : (w : Mine R C) → next ≤ a.callers → w ≡ (without_number m.0, m.1) → IsDealing a (next + 1) w

@@ -26,8 +26,9 @@ use Rattle.raise_laws.proofs.laws.Limits.{lessened_lost, IsWithin, weight_within
 use Rattle.raise_laws.proofs.laws.Raises.{step_of, step_valid}
 use Rattle.raise_laws.proofs.laws.Floored.{cost_turned}
 use Rattle.price_defs.specs.Limits.{AreLight}
-use Rattle.dual_prices.specs.Rooms.{AreCheap}
-use Rattle.dual_prices.specs.Rooms.{IsRowAt, IsCandidate, IsLeastRoom, IsRaisedAt, IsRaising}
+use Rattle.dual_prices.specs.declared.rooms.Room.{Room}
+use Rattle.dual_prices.specs.Raised.{IsCandidate, IsRaisedAt}
+use Rattle.dual_prices.specs.Rooms.{AreCheap, IsRowAt, IsLeastRoom, IsRaising}
 use Rattle.dual_prices.proofs.laws.Rooms.{load_turned, allowed_small, not_some}
 use Rattle.std.proofs.Math.Seq.{take-length, drop-length}
 use Rattle.std.proofs.lemmas.Option.{same_Some}
@@ -65,10 +66,11 @@ some_candidate S p row ok right at_p =
     ]
 
 -- the least room over the other ends is the room
-pub room_of : (S : List Point) (D : List Costed) (q : ℕ) (rows : List Row) (row : Row) (p m : ℕ) → p < length S → IsRowAt p row → IsLeastRoom S D q rows row p (length S) (Some m) → IsRoom S D q rows row m
-room_of S D q rows row p m pn at_p ((r, rn, (ne, clear, counted), room), least) =
+pub room_of : (S : List Point) (D : List Costed) (q : ℕ) (rows : List Row) (row : Row) (p : ℕ) (room : Room) → p < length S → IsRowAt p row → IsLeastRoom S D q rows row p (length S) (Some room) → IsRoom S D q rows row room.more
+room_of S D q rows row p room pn at_p (rn, (ne, clear, counted), is, least) =
+    let r = room.end in
     elim (cases_lt p r) [
-      | inl h ↦ record { i = p; j = r; ordered = h; within = rn; clear = clear; counted = counted; is = room; least = all }
+      | inl h ↦ record { i = p; j = r; ordered = h; within = rn; clear = clear; counted = counted; is = is; least = all }
       | inr h ↦ record {
         i = r;
         j = p;
@@ -76,16 +78,16 @@ room_of S D q rows row p m pn at_p ((r, rn, (ne, clear, counted), room), least) 
         within = pn;
         clear = clear_back S p r clear;
         counted = counts_turned S row p r counted;
-        is = omega (arith, ints, room, load_turned S rows r p, ap (λ n. q * n) (cost_turned D r p));
+        is = omega (arith, ints, is, load_turned S rows r p, ap (λ n. q * n) (cost_turned D r p));
         least = all;
       }
     ]
   where
-    all : (k l : ℕ) → k < l → l < length S → IsClear S k l → Counts S row k l → (load S rows k l +ℤ pos m) ≤ℤ pos (q * cost D k l)
+    all : (k l : ℕ) → k < l → l < length S → IsClear S k l → Counts S row k l → (load S rows k l +ℤ pos room.more) ≤ℤ pos (q * cost D k l)
     all k l o n c h =
         elim (candidate_of S p row k l o n c h (end_of S p row k l at_p h)) [
-          | inl g ↦ subst (λ x. (load S rows x l +ℤ pos m) ≤ℤ pos (q * cost D x l)) (sym g.1) (least l g.0 g.2)
-          | inr g ↦ (let b : (load S rows l k +ℤ pos m) ≤ℤ pos (q * cost D l k) = subst (λ x. (load S rows x k +ℤ pos m) ≤ℤ pos (q * cost D x k)) (sym g.1) (least k g.0 g.2) in
+          | inl g ↦ subst (λ x. (load S rows x l +ℤ pos room.more) ≤ℤ pos (q * cost D x l)) (sym g.1) (least l g.0 g.2)
+          | inr g ↦ (let b : (load S rows l k +ℤ pos room.more) ≤ℤ pos (q * cost D l k) = subst (λ x. (load S rows x k +ℤ pos room.more) ≤ℤ pos (q * cost D x k)) (sym g.1) (least k g.0 g.2) in
               omega (arith, ints, load_turned S rows k l, ap (λ n. q * n) (cost_turned D k l)))
         ]
 

@@ -20,8 +20,8 @@ use Rattle.plane.proofs.laws.Border.{clear_back}
 use Rattle.price_defs.proofs.laws.Counted.{row_free}
 use Rattle.price_defs.proofs.laws.Counting.{counts_turned}
 use Rattle.raise_laws.proofs.laws.Floored.{cost_turned}
-use Rattle.dual_prices.specs.Rooms.{AreCheap}
-use Rattle.dual_prices.specs.Rooms.{IsCandidate, IsRoomWith, IsLeastRoom, IsBelow, IsZero}
+use Rattle.dual_prices.specs.Raised.{IsCandidate}
+use Rattle.dual_prices.specs.Rooms.{AreCheap, IsRoomWith, IsBelow}
 use Rattle.partition_defs.proofs.laws.Joined.{ends_back}
 use Rattle.std.proofs.lemmas.Option.{same_Some}
 
@@ -79,49 +79,6 @@ candidate_allowed S D q rows row p r valid right pn rn (ne, clear, counted) =
           subst (λ n. load S rows p r ≤ℤ pos (q * n)) (cost_turned D r p) (omega (arith, ints, load_turned S rows p r)))
     ]
 
--- a room that is less than the least so far is the least
-pub room_taken : (S : List Point) (D : List Costed) (q : ℕ) (rows : List Row) (row : Row) (p r m : ℕ) (best : Option ℕ) → r < length S → IsCandidate S row p r → IsRoomWith S D q rows p r m
-    → ((b : ℕ) → best ≡ Some b → m ≤ b) → IsLeastRoom S D q rows row p r best → IsLeastRoom S D q rows row p (r + 1) (Some m)
-room_taken S D q rows row p r m None rn cand room less least = (
-  (r, rn, cand, room),
-  λ s l c. elim (cases_lt s r) [
-    | inl h ↦ absurd (least s h c)
-    | inr h ↦ (let e : s ≡ r = omega arith in subst (λ x. (load S rows p x +ℤ pos m) ≤ℤ pos (q * cost D p x)) (sym e) (omega (arith, ints, room)))
-  ],
-)
-room_taken S D q rows row p r m (Some b) rn cand room less least = (
-  (r, rn, cand, room),
-  λ s l c. elim (cases_lt s r) [
-    | inl h ↦ (let k : (load S rows p s +ℤ pos b) ≤ℤ pos (q * cost D p s) = least.1 s h c in omega (arith, ints, less b refl))
-    | inr h ↦ (let e : s ≡ r = omega arith in subst (λ x. (load S rows p x +ℤ pos m) ≤ℤ pos (q * cost D p x)) (sym e) (omega (arith, ints, room)))
-  ],
-)
-
--- the least so far stays where it isn't more than the room
-pub room_kept : (S : List Point) (D : List Costed) (q : ℕ) (rows : List Row) (row : Row) (p r m b : ℕ) → IsRoomWith S D q rows p r m → b ≤ m
-    → IsLeastRoom S D q rows row p r (Some b) → IsLeastRoom S D q rows row p (r + 1) (Some b)
-room_kept S D q rows row p r m b room le least = (
-  least.0,
-  λ s l c. elim (cases_lt s r) [
-    | inl h ↦ least.1 s h c
-    | inr h ↦ (let e : s ≡ r = omega arith in subst (λ x. (load S rows p x +ℤ pos b) ≤ℤ pos (q * cost D p x)) (sym e) (omega (arith, ints, room)))
-  ],
-)
-
-pub room_pass : (S : List Point) (D : List Costed) (q : ℕ) (rows : List Row) (row : Row) (p r : ℕ) (best : Option ℕ) → ¬ IsCandidate S row p r
-    → IsLeastRoom S D q rows row p r best → IsLeastRoom S D q rows row p (r + 1) best
-room_pass S D q rows row p r None miss least = λ s l c. elim (cases_lt s r) [
-  | inl h ↦ least s h c
-  | inr h ↦ (let e : s ≡ r = omega arith in miss (subst (IsCandidate S row p) e c))
-]
-room_pass S D q rows row p r (Some b) miss least = (
-  least.0,
-  λ s l c. elim (cases_lt s r) [
-    | inl h ↦ least.1 s h c
-    | inr h ↦ (let e : s ≡ r = omega arith in absurd (miss (subst (IsCandidate S row p) e c)))
-  ],
-)
-
 -- whether a number is below the least so far
 pub not_below : (x : ℕ) (best : Option ℕ) (b : Bool) → IsBelow x best b → b ≡ false → (m : ℕ) × (best ≡ Some m) × (m ≤ x)
 not_below x None b h f = absurd (false≢true (sym f ∙ h))
@@ -157,17 +114,9 @@ pub none_left : (S : List Point) (D : List Costed) (q : ℕ) (rows : List Row) (
     → allowed ≡ q * cost D p r + takes rows p r → given ≡ gives S rows p r → allowed < given → ¬ IsCandidate S row p r
 none_left S D q rows row p r allowed given valid right pn rn a g more cand = omega (arith, ints, a, g, candidate_allowed S D q rows row p r valid right pn rn cand)
 
--- the least room where the first counted pair has none left
-pub no_room : (S : List Point) (D : List Costed) (q : ℕ) (rows : List Row) (row : Row) (p k : ℕ) → IsValid S D q rows → IsRight S row → p < length S → IsLeastRoom S D q rows row p k (Some 0) → IsLeastRoom S D q rows row p (length S) (Some 0)
-no_room S D q rows row p k valid right pn least = (least.0, λ s sn cand. omega (arith, ints, candidate_allowed S D q rows row p s valid right pn sn cand))
-
 -- a test that finds no count
 pub not_counted : (S : List Point) (row : Row) (i j : ℕ) (b : Bool) → (IsTrue b ↔ Counts S row i j) → b ≡ false → counts S row i j ≡ false
 not_counted S row i j b h e = same_from_decides (counts S row i j) b (counts_decides S row i j) (h.0, h.1) ∙ e
 
 pub is_counted : (S : List Point) (row : Row) (i j : ℕ) (b : Bool) → (IsTrue b ↔ Counts S row i j) → b ≡ true → counts S row i j ≡ true
 is_counted S row i j b h e = same_from_decides (counts S row i j) b (counts_decides S row i j) (h.0, h.1) ∙ e
-
-pub zero_is : (best : Option ℕ) (b : Bool) → IsZero best b → b ≡ true → best ≡ Some 0
-zero_is None b h t = absurd (false≢true (sym h ∙ t))
-zero_is (Some m) b h t = ap (λ (n : ℕ). Some n) (h.0 t)

@@ -1,6 +1,6 @@
 -- Changes of a star's list that are taken back: marks, and a neighbour put in and left out.
 use Rattle.std.proofs.Common.{◌≡◌, ◌≢◌, ℕ, Bool, true, false, cond, nat_eq, List, [], ◌∷◌, inl, inr, sym, ◌∙◌, ap, subst, refl}
-use Rattle.std.proofs.lemmas.Bool.{cond_both, cases_Bool}
+use Rattle.std.proofs.lemmas.Bool.{cond_both, cases_Bool, ne_eqb}
 use Rattle.std.proofs.lemmas.Bool.Decides.{Decides-eqb}
 use Rattle.journal_defs.specs.Neighbours.{mark_as, leave_out, put_in_turn, turns_before}
 use Rattle.plane.specs.declared.coordinates.Point.{Point}
@@ -12,9 +12,6 @@ cond_true b x y h = ap (λ (z : Bool). cond z x y) h
 
 cond_false : {A : Type 0} (b : Bool) (x y : A) → b ≡ false → cond b x y ≡ y
 cond_false b x y h = ap (λ (z : Bool). cond z x y) h
-
-differ : (a b : ℕ) → a ≢ b → nat_eq a b ≡ false
-differ a b ne = elim (cases_Bool (nat_eq a b)) [ inl t ↦ absurd (ne ((Decides-eqb a b).0 t)) | inr f ↦ f ]
 
 -- a mark changed and set as it was
 pub mark_back : (w : ℕ) (b c : Bool) (l : List (ℕ × Bool)) → ((x : ℕ × Bool) → In x l → x.0 ≡ w → x.1 ≡ b) → mark_as w b (mark_as w c l) ≡ l
@@ -35,7 +32,7 @@ pub none_left_out : (w : ℕ) (l : List (ℕ × Bool)) → ((x : ℕ × Bool) �
 unfolding leave_out
 none_left_out w [] h = refl
 none_left_out w (x ∷ xs) h =
-    cond_false (nat_eq x.0 w) (leave_out w xs) (x ∷ leave_out w xs) (differ x.0 w (h x (inl refl)))
+    cond_false (nat_eq x.0 w) (leave_out w xs) (x ∷ leave_out w xs) (ne_eqb x.0 w (h x (inl refl)))
     ∙ ap (λ (z : List (ℕ × Bool)). x ∷ z) (none_left_out w xs (λ y i. h y (inr i)))
 
 -- a neighbour put in and left out
@@ -45,7 +42,7 @@ put_back S v w b [] h = cond_true (nat_eq w w) [] ((w, b) ∷ []) ((Decides-eqb 
 put_back S v w b (y ∷ ys) h =
     cond_both (turns_before (point S v) (point S w) (point S y.0)) ((w, b) ∷ y ∷ ys) (y ∷ put_in_turn S v (w, b) ys) (λ z. leave_out w z ≡ y ∷ ys)
     (λ t. cond_true (nat_eq w w) (leave_out w (y ∷ ys)) ((w, b) ∷ leave_out w (y ∷ ys)) ((Decides-eqb w w).1 refl) ∙ none_left_out w (y ∷ ys) h)
-    (λ f. cond_false (nat_eq y.0 w) (leave_out w (put_in_turn S v (w, b) ys)) (y ∷ leave_out w (put_in_turn S v (w, b) ys)) (differ y.0 w (h y (inl refl)))
+    (λ f. cond_false (nat_eq y.0 w) (leave_out w (put_in_turn S v (w, b) ys)) (y ∷ leave_out w (put_in_turn S v (w, b) ys)) (ne_eqb y.0 w (h y (inl refl)))
     ∙ ap (λ (z : List (ℕ × Bool)). y ∷ z) (put_back S v w b ys (λ x i. h x (inr i))))
 
 -- in turning order by the test, each neighbour once
@@ -73,6 +70,6 @@ out_and_in S v x (y ∷ ys) turns (inl same) =
     ∙ put_front S v y ys (λ z i. (turns.0 z i).0))
 out_and_in S v x (y ∷ ys) turns (inr i) =
     let t = turns.0 x i in
-    ap (λ (z : List (ℕ × Bool)). put_in_turn S v x z) (cond_false (nat_eq y.0 x.0) (leave_out x.0 ys) (y ∷ leave_out x.0 ys) (differ y.0 x.0 (λ e. t.2 (sym e))))
+    ap (λ (z : List (ℕ × Bool)). put_in_turn S v x z) (cond_false (nat_eq y.0 x.0) (leave_out x.0 ys) (y ∷ leave_out x.0 ys) (ne_eqb y.0 x.0 (λ e. t.2 (sym e))))
     ∙ cond_false (turns_before (point S v) (point S x.0) (point S y.0)) (x ∷ y ∷ leave_out x.0 ys) (y ∷ put_in_turn S v x (leave_out x.0 ys)) t.1
     ∙ ap (λ (z : List (ℕ × Bool)). y ∷ z) (out_and_in S v x ys turns.1 i)

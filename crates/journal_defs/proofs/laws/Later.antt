@@ -1,6 +1,6 @@
 -- Laws on lists of edits and on whole journals: what holds at a state holds at one that agrees with it at the touched
 -- vertices; prefixes; the sweep.
-use Rattle.std.proofs.Common.{◌≡◌, ℕ, ◌+◌, true, List, [], ◌∷◌, ◌++◌, inl, inr, sym, ◌∙◌, ap, subst, refl, cond, nat_eq, Bool}
+use Rattle.std.proofs.Common.{◌≡◌, ◌≤◌, ℕ, suc, ◌+◌, length, arith, true, List, [], ◌∷◌, ◌++◌, inl, inr, sym, ◌∙◌, ap, subst, refl, cond, nat_eq, Bool}
 use Rattle.std.specs.List.{Contains, AllByRecursion, list_any}
 use Rattle.std.proofs.lemmas.List.Sums.{sum_by-append}
 use Rattle.std.proofs.lemmas.Bool.Decides.{Decides-eqb}
@@ -142,3 +142,17 @@ seqs_drops n [] B is = tt
 seqs_drops n (e ∷ dropped) B is =
     let c : Commit = record { caller = 0; seq = n + 1; edits = Drop e ∷ [] } in
     (ap (λ (m : ℕ). m + 1) is, seqs_drops (n + 1) dropped (B ++ c ∷ []) (ap (λ (m : ℕ). m + 1) is ∙ sym (made_more B c refl)))
+
+-- a sweep drops no more pairs than it goes through
+pub dropped_count : (S : List Point) (s : State) (pairs dropped : List Pair) → IsSwept S s pairs dropped → length dropped ≤ length pairs
+dropped_count S s [] dropped swept = subst (λ (d : List Pair). length d ≤ 0) (sym swept) (omega arith)
+dropped_count S s (x ∷ pairs) dropped (inl (legal, (rest, is, swept))) =
+    let few : length rest ≤ length pairs = dropped_count S (after (Drop x) s) pairs rest swept in
+    subst (λ (d : List Pair). length d ≤ suc (length pairs)) (sym is) (omega (arith, few))
+dropped_count S s (x ∷ pairs) dropped (inr (illegal, swept)) =
+    let few : length dropped ≤ length pairs = dropped_count S s pairs dropped swept in omega (arith, few)
+
+-- a sweep makes one commit for each pair that it drops
+pub drops_count : (n : ℕ) (dropped : List Pair) → length (drops n dropped) ≡ length dropped
+drops_count n [] = refl
+drops_count n (e ∷ dropped) = ap suc (drops_count (n + 1) dropped)

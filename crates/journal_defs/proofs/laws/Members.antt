@@ -1,5 +1,5 @@
 -- What stays at a vertex that an edit doesn't touch.
-use Rattle.std.proofs.Common.{◌≡◌, ℕ, true, false, nat_eq, List, inl, inr, refl}
+use Rattle.std.proofs.Common.{◌≡◌, ℕ, ◌⊎◌, true, false, nat_eq, List, inl, inr, refl, arith}
 use Rattle.std.proofs.lemmas.Bool.{or_parts}
 use Rattle.std.proofs.lemmas.Bool.Decides.{Decides-eqb, Decides-or, not_from_Decides}
 use Rattle.plane.specs.declared.coordinates.Point.{Point}
@@ -63,3 +63,14 @@ star_alike S s t v a same so = record {
   neighbours = λ w. (λ h. (same.all w).0 ((so.neighbours w).0 h), λ h. (so.neighbours w).1 ((same.all w).1 h));
   marks = λ w n. (λ h. (same.kept w).0 ((so.marks w n).0 h), λ h. (so.marks w n).1 ((same.kept w).1 h));
 }
+
+-- an end of a pair
+pub end_of : (g : Pair) (x : ℕ) → is_end g x ≡ true → (g.lo ≡ x) ⊎ (g.hi ≡ x)
+end_of g x h = (Decides-or (nat_eq g.lo x) (nat_eq g.hi x) (Decides-eqb g.lo x) (Decides-eqb g.hi x)).0 h
+
+-- the two ends of a pair
+pub ends_apart : (e : Pair) (v : ℕ) → nat_eq e.lo v ≡ true → nat_eq e.hi v ≡ true → ⊥
+ends_apart e v a b =
+    let lo : e.lo ≡ v = (Decides-eqb e.lo v).0 a in
+    let hi : e.hi ≡ v = (Decides-eqb e.hi v).0 b in
+    let o = e.ordered in omega arith

@@ -36,7 +36,7 @@ in_marked e v w b c l =
     ]))
     (λ off h. inr (off w, h))
 
-marked_own : (e : Pair) (v w : ℕ) (b d : Bool) (l : List (ℕ × Bool)) → HasEnds e v w → In (w, d) l → In (w, b) (at_end e v (λ x. mark_as x b l) l)
+pub marked_own : (e : Pair) (v w : ℕ) (b d : Bool) (l : List (ℕ × Bool)) → HasEnds e v w → In (w, d) l → In (w, b) (at_end e v (λ x. mark_as x b l) l)
 marked_own e v w b d l own h =
     at_end_cases e v (λ x. mark_as x b l) l (λ m. In (w, b) m)
     (λ x ends. (let Q : Bool → Type 0 = λ m. In (w, m) (mark_as x b l) in
@@ -81,7 +81,7 @@ in_new S f v w c l =
     ])
     (λ off h. inr h)
 
-new_own : (S : List Point) (f : Pair) (v w : ℕ) (l : List (ℕ × Bool)) → HasEnds f v w → In (w, false) (at_end f v (λ x. put_in_turn S v (x, false) l) l)
+pub new_own : (S : List Point) (f : Pair) (v w : ℕ) (l : List (ℕ × Bool)) → HasEnds f v w → In (w, false) (at_end f v (λ x. put_in_turn S v (x, false) l) l)
 new_own S f v w l own =
     at_end_cases f v (λ x. put_in_turn S v (x, false) l) l (λ m. In (w, false) m)
     (λ x ends. put_in S v (x, false) (w, false) l (inl (ap (λ (n : ℕ). (let p : ℕ × Bool = (n, false) in p)) (one_other f v x w ends own))))

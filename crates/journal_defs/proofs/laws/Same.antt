@@ -23,7 +23,7 @@ use Rattle.std.proofs.lemmas.Bool.{or_left, or_right}
 abbrev pub AreOne : (s t : Seen) → Type 0
 AreOne s t = (s.centre ≡ t.centre) × (s.list ≡ t.list) × (s.points ≡ t.points)
 
-one_back : (s t : Seen) → AreOne s t → AreOne t s
+pub one_back : (s t : Seen) → AreOne s t → AreOne t s
 one_back s t a = (sym a.0, sym a.1, sym a.2)
 
 near : (s t : Seen) (q : ℕ) → AreOne s t → IsNeighbour s q → IsNeighbour t q

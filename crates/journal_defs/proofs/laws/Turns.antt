@@ -13,7 +13,7 @@ use Rattle.std.proofs.lemmas.Bool.{or_left, or_right}
 use Rattle.journal_defs.proofs.laws.Edits.{sound_after}
 use Rattle.journal_defs.proofs.laws.Table.{IsTrueAt, fits_legal, legal_fits}
 use Rattle.journal_defs.proofs.laws.Turned.{value_is_star, star_is_value}
-use Rattle.journal_defs.proofs.laws.Same.{AreOne, same_fits}
+use Rattle.journal_defs.proofs.laws.Same.{AreOne, same_fits, one_back}
 use Rattle.journal_defs.proofs.laws.Follow.{star_follows}
 
 -- the edits touch points alone
@@ -29,9 +29,6 @@ by_first e es v h = or_left (touches e v) (list_any (λ f. touches f v) es) h
 
 by_rest : (e : Edit) (es : List Edit) (v : ℕ) → list_any (λ f. touches f v) es ≡ true → list_any (λ f. touches f v) (e ∷ es) ≡ true
 by_rest e es v h = or_right (touches e v) (list_any (λ f. touches f v) es) h
-
-one_back : (s t : Seen) → AreOne s t → AreOne t s
-one_back s t a = (sym a.0, sym a.1, sym a.2)
 
 -- after a legal edit the stars show the next state
 show_next : (S : List Point) (s : State) (at : ℕ → Seen) (e : Edit) (es : List Edit) → TouchPoints S (e ∷ es) → ShowState S s at (e ∷ es)

@@ -31,7 +31,7 @@ orderly : (S : List Point) (s : Seen) (v : ℕ) → IsStarAt S s v → IsOrderly
 orderly S s v at = subst (λ (X : List Point). IsOrderly X v s.list) at.2 (subst (λ (c : ℕ). IsOrderly s.points c s.list) at.1 at.0)
 
 -- at an end the change, elsewhere none
-at_end_is : (e : Pair) (v w : ℕ) (change : ℕ → List (ℕ × Bool)) (list : List (ℕ × Bool)) → HasEnds e v w → at_end e v change list ≡ change w
+pub at_end_is : (e : Pair) (v w : ℕ) (change : ℕ → List (ℕ × Bool)) (list : List (ℕ × Bool)) → HasEnds e v w → at_end e v change list ≡ change w
 at_end_is e v w change list own = at_end_cases e v change list (λ m. m ≡ change w) (λ x ends. ap change (one_other e v x w ends own)) (λ off. absurd (off w own))
 
 at_end_off : (e : Pair) (v : ℕ) (change : ℕ → List (ℕ × Bool)) (list : List (ℕ × Bool)) → ((w : ℕ) → ¬ HasEnds e v w) → at_end e v change list ≡ list
@@ -104,10 +104,10 @@ flip_undone S e f v l accepted o there fresh =
         ∙ out_and_in S v (w, false) l (by_test S v l (apart_of S v l accepted o) (turn_in S v l o.order)) (there w ends))
         (λ off. at_end_off e v (λ w. put_in_turn S v (w, false) l) l off)
 
-of_mark : (s : Seen) (q : ℕ) (b : Bool) → HasMark s q b → In (q, b) s.list
+pub of_mark : (s : Seen) (q : ℕ) (b : Bool) → HasMark s q b → In (q, b) s.list
 of_mark s q b (k, hk, is) = subst (λ (z : ℕ × Bool). In z s.list) is (in_at s.list k hk)
 
-to_mark : (s : Seen) (q : ℕ) (b : Bool) → In (q, b) s.list → HasMark s q b
+pub to_mark : (s : Seen) (q : ℕ) (b : Bool) → In (q, b) s.list → HasMark s q b
 to_mark s q b i = at_in s.list (q, b) i
 
 -- what the star of the smaller end says of e stands at both ends

@@ -5,6 +5,7 @@ use Rattle.std.proofs.lemmas.Bool.{cond_both}
 use Rattle.std.proofs.lemmas.List.Kept.{AllPairs-cons}
 use Rattle.plane.specs.declared.segment.Pair.{Pair}
 use Rattle.partition_defs.specs.Ascending.{ComesFirst, IsAscending}
+use Rattle.partition_defs.specs.Triangulation.{AreDistinct}
 
 -- e is a member, by recursion
 abbrev pub Has : Pair → List Pair → Type 0
@@ -98,3 +99,9 @@ one_list (x ∷ xs) (y ∷ ys) r s a b =
     later : (x y : Pair) (xs ys : List Pair) → Rises (x ∷ xs) → x ≡ y → (e : Pair) → Has e xs → (y ≡ e) ⊎ Has e ys → Has e ys
     later x y xs ys r same e h (inl k) = absurd (let o : ComesFirst x x = subst (λ z. ComesFirst x z) (sym (same ∙ k)) (r.0 e h) in never_both x x o o)
     later x y xs ys r same e h (inr k) = k
+
+-- a list that ascends has nothing twice
+pub ascending_distinct : (K : List Pair) → IsAscending K → AreDistinct K
+ascending_distinct K a i j d ij hj same =
+    let y = get_or K j d in
+    let twice : ComesFirst y y = subst (λ z. ComesFirst z y) same (a i j d ij hj) in never_both y y twice twice

@@ -1,5 +1,5 @@
 -- The pairs of a list by their two ends.
-use Rattle.std.proofs.Common.{◌≡◌, ℕ, List, inl, inr, min, max, arith, sym, ◌∙◌, subst, refl}
+use Rattle.std.proofs.Common.{◌≡◌, ◌<◌, ℕ, List, inl, inr, min, max, arith, sym, ◌∙◌, subst, refl}
 use Rattle.std.specs.List.{Contains}
 use Rattle.std.proofs.lemmas.Bool.{cases_lt}
 use Rattle.plane.specs.declared.coordinates.Point.{Point}
@@ -102,3 +102,8 @@ joins_from T e i j c h = (c.0, e, c.1, c.2, h)
 -- the pair that joins two ends is in the list
 pub joins_pair : (T : List Pair) (i j : ℕ) (h : Joins T i j) → Contains T h.1
 joins_pair T i j h = (h.0, h.2, h.3)
+
+-- where a pair is within n, so is its other end
+pub other_within : (f : Pair) (v w n : ℕ) → HasEnds f v w → f.hi < n → w < n
+other_within f v w n (inl h) in_ = omega (arith, h.1, in_)
+other_within f v w n (inr h) in_ = let o = f.ordered in omega (arith, h.0, in_, o)

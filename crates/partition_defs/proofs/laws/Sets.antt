@@ -2,7 +2,7 @@
 use Rattle.std.proofs.Common.{◌≡◌, ◌≢◌, ℕ, Bool, true, false, ◌&&◌, not, nat_eq, nat_lt, List, ◌∷◌, ◌++◌, filter, ◌⊎◌, inl, inr, arith, sym, ap, subst, refl}
 use Rattle.std.specs.Bool.{Decides}
 use Rattle.std.specs.List.{Contains}
-use Rattle.std.proofs.lemmas.Bool.{false≢true, cases_lt}
+use Rattle.std.proofs.lemmas.Bool.{false≢true, cases_lt, not-true}
 use Rattle.std.proofs.lemmas.Bool.Decides.{Decides-eqb, Decides-ltb, Decides-and, Decides-or, Decides-like, not_from_Decides}
 use Rattle.std.proofs.lemmas.List.Kept.{AllPairs-filter}
 use Rattle.plane.specs.declared.segment.Pair.{Pair}
@@ -39,10 +39,6 @@ one_way e f = elim (cases_lt f.lo e.lo) [
   ]
 ]
 
-not_true : (b : Bool) → not b ≡ true → b ≡ false
-not_true true h = absurd (false≢true h)
-not_true false h = refl
-
 true_not : (b : Bool) → ¬ (b ≡ true) → not b ≡ true
 true_not true h = absurd (h refl)
 true_not false h = refl
@@ -51,7 +47,7 @@ pub has_without : (e f : Pair) (K : List Pair) → Has f (without e K) → Has f
 unfolding without
 has_without e f K h =
     let r = has_filter (λ g. not (is_same g e)) K f h in
-    (r.0, not_from_Decides (is_same f e) (Decides-same f e) (not_true (is_same f e) r.1))
+    (r.0, not_from_Decides (is_same f e) (Decides-same f e) (not-true (is_same f e) r.1))
 
 pub without_has : (e f : Pair) (K : List Pair) → Has f K → f ≢ e → Has f (without e K)
 unfolding without
@@ -178,3 +174,4 @@ with_joins e K i j h = let (f, m, ends) = joined K i j h in joins_of (with_one e
 
 pub with_joins_own : (e : Pair) (K : List Pair) (i j : ℕ) → HasEnds e i j → Joins (with_one e K) i j
 with_joins_own e K i j h = joins_of (with_one e K) e i j (with_own e K) h
+

@@ -6,7 +6,7 @@ use Rattle.plane.specs.declared.segment.Pair.{Pair, ordered-type}
 ordered_once : (a b : ℕ) → IsProp (ordered-type a b)
 ordered_once a b = le_prop
 
-made : (a b : ℕ) → ordered-type a b → Pair
+pub made : (a b : ℕ) → ordered-type a b → Pair
 made a b o = record { lo = a; hi = b; ordered = o }
 
 -- two pairs with the same ends are equal

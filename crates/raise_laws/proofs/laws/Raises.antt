@@ -14,7 +14,7 @@ use Rattle.price_defs.specs.declared.row.Row.TheVariants.{Half, Three, Cross, Ca
 use Rattle.price_defs.specs.declared.row.TheConstants.{MOST_ROWS}
 use Rattle.cost_defs.specs.Costs.{Costed, cost}
 use Rattle.price_defs.specs.Rows.{IsRight, AreRight, weight, Counts, counts, lessens}
-use Rattle.price_defs.specs.Loads.{given, lessened, load, IsValid}
+use Rattle.price_defs.specs.Loads.{given, lessened, load, IsValid, lost}
 use Rattle.price_defs.specs.Tight.{IsAtPoint, IsFull}
 use Rattle.price_defs.specs.Raising.{reweigh, IsRoom, IsRaisedRow, AreRaisedFrom, AreRaised}
 use Rattle.price_defs.proofs.laws.Tests.{counts_decides}
@@ -226,3 +226,19 @@ pub raised_grows : (S : List Point) (D : List Costed) (q : ℕ) (rows out : List
 raised_grows S D q rows out raised =
     let g : (tail : List Row) × (out ≡ [] ++ tail) × AllZip Grows rows tail = grows_from S D q [] rows out raised in
     subst (AllZip Grows rows) (sym g.1) g.2
+
+-- raising leaves the weights of the Cross and Cap rows as they are
+grown_row_lost : (old new : Row) → Grows old new → lost new ≡ lost old
+grown_row_lost (Half p r w) new (v, more, is) = ap lost is
+grown_row_lost (Three p w) new (v, more, is) = ap lost is
+grown_row_lost (Cross e f w) new is = ap lost is
+grown_row_lost (Cap e w) new is = ap lost is
+
+pub grown_lost : (rows out : List Row) → AllZip Grows rows out → sum_by lost out ≡ sum_by lost rows
+grown_lost [] [] all = refl
+grown_lost [] (y ∷ out) all = absurd all
+grown_lost (x ∷ rows) [] all = absurd all
+grown_lost (x ∷ rows) (y ∷ out) all =
+    let first : lost y ≡ lost x = grown_row_lost x y all.0 in
+    let rest : sum_by lost out ≡ sum_by lost rows = grown_lost rows out all.1 in
+    sum_by-cons lost y out ∙ ap (λ (n : ℕ). n + sum_by lost out) first ∙ ap (λ (n : ℕ). lost x + n) rest ∙ sym (sum_by-cons lost x rows)

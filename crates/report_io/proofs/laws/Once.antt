@@ -10,19 +10,15 @@ use Rattle.price_defs.specs.declared.row.Row.TheVariants.{Half, Three, Cross, Ca
 use Rattle.price_defs.specs.declared.row.Certificate.{Certificate}
 use Rattle.instance_io.specs.Refusal.{ends}
 use Rattle.instance_io.specs.declared.instances.Instance.{Instance}
+use Rattle.report_io.specs.declared.faults.ReportFault.{ReportFault}
 use Rattle.report_io.specs.declared.report.Report.{Report}
 use Rattle.report_io.specs.declared.summary.Summary.{Summary}
 use Rattle.report_io.specs.Parts.{EditItem, dropped, kept, flipped, RowItem, half, three, cross, cap, CommitItem, LaterParts}
 use Rattle.report_io.specs.Report.{edit_item, row_item, commit_item, later_parts}
+use Rattle.text_defs.proofs.laws.Lists.{heads, tails}
 
 pub pair_once : (e f : Pair) → ends e ≡ ends f → e ≡ f
 pair_once e f h = pair_same e f (ap (λ (p : ℕ × ℕ). p.0) h) (ap (λ (p : ℕ × ℕ). p.1) h)
-
-heads : {A : Type 0} (x y : A) (xs ys : List A) → x ∷ xs ≡ y ∷ ys → x ≡ y
-heads x y xs ys e = cc
-
-tails : {A : Type 0} (x y : A) (xs ys : List A) → x ∷ xs ≡ y ∷ ys → xs ≡ ys
-tails x y xs ys e = cc
 
 pub map_once : {X A : Type 0} (f : X → A) → ((x y : X) → f x ≡ f y → x ≡ y) → (xs ys : List X) → map f xs ≡ map f ys → xs ≡ ys
 map_once f once [] [] h = refl
@@ -115,3 +111,6 @@ report_once r s i h =
     ∙ (ap₂ (λ (p : List Pair) (c : Certificate). make s.instance s.solution_name p c r.value r.start r.commits r.summary) solution certificate
     ∙ (ap₂ (λ (v : ℕ) (t : List Pair). make s.instance s.solution_name s.solution s.certificate v t r.commits r.summary) value start
     ∙ ap₂ (λ (j : List Commit) (m : Summary). make s.instance s.solution_name s.solution s.certificate s.value s.start j m) commits summary))
+
+pub ok_is : {A : Type 0} (x y : A) → ◌≡◌ {A = Result A ReportFault} (Ok x) (Ok y) → x ≡ y
+ok_is x y h = cc

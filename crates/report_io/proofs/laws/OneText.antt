@@ -1,4 +1,4 @@
--- A text fixes the instance, the solution, the certificate and the journal of its first four lines, with no limit on how many pairs, rows or commits
+-- A text fixes the instance, the solution, the certificate and the journal of its heads four lines, with no limit on how many pairs, rows or commits
 -- there are, and whatever its fifth line is.
 use Rattle.std.proofs.Common.{◌≡◌, ℕ, ℤ, ◌^◌, ◌≤◌, List, [], ◌∷◌, ◌++◌, length, map, Some, Option, Ok, Result, option_and_then, codes, IsUtf8, refl, sym, ap, ap₂, ◌∙◌, subst}
 use Rattle.serde_json.specs.Data.{Data, depth}
@@ -12,7 +12,7 @@ use Rattle.text_defs.specs.Solutions.{edge_of}
 use Rattle.text_defs.specs.Lines.{lines_text}
 use Rattle.text_defs.specs.Texts.{edge_data, cost_data, solution_data, instance_data, with_costs}
 use Rattle.text_defs.proofs.laws.IsPlain.{IsPlain, Each, IsEdge, IsCosted, IsPlace}
-use Rattle.text_defs.proofs.laws.Lists.{list_of-items_of}
+use Rattle.text_defs.proofs.laws.Lists.{list_of-items_of, heads, tails}
 use Rattle.text_defs.proofs.laws.Lines.{one_front}
 use Rattle.text_defs.proofs.laws.Costs.{cost_back, with_costs-plain, with_costs-depth, points_in-with_costs}
 use Rattle.text_defs.proofs.laws.Instances.{instance_plain, instance_shallow, points_in-instance_data}
@@ -23,8 +23,9 @@ use Rattle.report_io.specs.Texts.{row_data, commit_data, start_data, certificate
 use Rattle.report_io.proofs.laws.PartLimits.{IsRowItem, IsCommitItem, AreCertificateParts}
 use Rattle.report_io.proofs.laws.PartsBack.{all_back, row_back, start_back, commit_back}
 use Rattle.report_io.proofs.laws.PartsPlain.{certificate_plain, certificate_shallow, journal_plain, journal_shallow}
+use Rattle.std.proofs.lemmas.Option.{same_Some}
 
--- what stands on the first four lines
+-- what stands on the heads four lines
 pub record FrontParts : Type 0 where
   pub name : List ℕ
   pub points : List (ℤ × ℤ)
@@ -60,9 +61,6 @@ front_lines w h =
       ),
     )
 
-some_same : {A : Type 0} (x y : A) → Some x ≡ Some y → x ≡ y
-some_same x y e = cc
-
 ok_same : {A F : Type 0} (x y : A) → ◌≡◌ {A = Result A F} (Ok x) (Ok y) → x ≡ y
 ok_same x y e = cc
 
@@ -70,19 +68,13 @@ ok_same x y e = cc
 items_fix : {A : Type 0} (P : A → Type 0) (read : Data → Option A) (tell : A → Data) → ((x : A) → P x → read (tell x) ≡ Some x) → (xs ys : List A) → Each P xs → Each P ys
     → Some (items_of (map tell xs)) ≡ Some (items_of (map tell ys)) → xs ≡ ys
 items_fix P read tell back xs ys h k e =
-    let l : map tell xs ≡ map tell ys = sym (list_of-items_of (map tell xs)) ∙ (ap list_of (some_same _ _ e) ∙ list_of-items_of (map tell ys)) in
-    some_same xs ys (sym (all_back P read tell xs back h) ∙ (ap (all_of read) l ∙ all_back P read tell ys back k))
-
-first : {A : Type 0} (x y : A) (xs ys : List A) → x ∷ xs ≡ y ∷ ys → x ≡ y
-first x y xs ys e = cc
-
-second : {A : Type 0} (x y : A) (xs ys : List A) → x ∷ xs ≡ y ∷ ys → xs ≡ ys
-second x y xs ys e = cc
+    let l : map tell xs ≡ map tell ys = sym (list_of-items_of (map tell xs)) ∙ (ap list_of (same_Some _ _ e) ∙ list_of-items_of (map tell ys)) in
+    same_Some xs ys (sym (all_back P read tell xs back h) ∙ (ap (all_of read) l ∙ all_back P read tell ys back k))
 
 certificate_fix : (n : ℕ) (c d : CertificateParts) → AreCertificateParts n c → AreCertificateParts n d → certificate_data c ≡ certificate_data d → c ≡ d
 certificate_fix n c d h k e =
-    let q : c.q ≡ d.q = some_same _ _ (ap (λ x. option_and_then natural (get (codes "q") x)) e) in
-    let v : c.value ≡ d.value = some_same _ _ (ap (λ x. option_and_then natural (get (codes "value") x)) e) in
+    let q : c.q ≡ d.q = same_Some _ _ (ap (λ x. option_and_then natural (get (codes "q") x)) e) in
+    let v : c.value ≡ d.value = same_Some _ _ (ap (λ x. option_and_then natural (get (codes "value") x)) e) in
     let r : c.rows ≡ d.rows = items_fix (IsRowItem n) (row_of n) row_data (row_back n) c.rows d.rows h.rows k.rows (ap (array_at (codes "rows")) e) in
     ap₂ (λ (a b : ℕ). record { q = a; rows = c.rows; value = b }) q v ∙ ap (λ l. record { q = d.q; rows = l; value = d.value }) r
 
@@ -94,7 +86,7 @@ journal_fix n c d h k i j e =
 
 solution_fix : (n : ℕ) (s t : SolutionParts) → n ≤ 2 ^ 63 → Each (IsEdge n) s.pairs → Each (IsEdge n) t.pairs → solution_data s.name s.pairs ≡ solution_data t.name t.pairs → s ≡ t
 solution_fix n s t small h k e =
-    let name : s.name ≡ t.name = some_same _ _ (ap (λ x. option_and_then as_str (get (codes "instance_name") x)) e) in
+    let name : s.name ≡ t.name = same_Some _ _ (ap (λ x. option_and_then as_str (get (codes "instance_name") x)) e) in
     let pairs : s.pairs ≡ t.pairs = items_fix (IsEdge n) (edge_of n) edge_data (λ x g. edge_back n x.0 x.1 small g) s.pairs t.pairs h k (ap (array_at (codes "edges")) e) in
     ap₂ (λ (a : List ℕ) (b : List (ℕ × ℕ)). record { name = a; pairs = b }) name pairs
 
@@ -113,11 +105,11 @@ costs_fix n small (x ∷ D) (y ∷ F) name name2 points points2 h k e = items_fi
 pub one_text : (w v : FrontParts) (last more : List ℕ) → AreFrontParts w → AreFrontParts v → lines_text (front w) ++ last ≡ lines_text (front v) ++ more → w ≡ v
 one_text w v last more h k e =
     let ds = one_front (front w) (front v) last more refl (front_lines w h) (front_lines v k) e in
-    let i = first _ _ _ _ ds in
-    let s = first _ _ _ _ (second _ _ _ _ ds) in
-    let c = first _ _ _ _ (second _ _ _ _ (second _ _ _ _ ds)) in
-    let j = first _ _ _ _ (second _ _ _ _ (second _ _ _ _ (second _ _ _ _ ds))) in
-    let name : w.name ≡ v.name = some_same _ _ (sym (name_under w.costs w.name w.points) ∙ (ap (λ x. option_and_then as_str (get (codes "name") x)) i ∙ name_under v.costs v.name v.points)) in
+    let i = heads _ _ _ _ ds in
+    let s = heads _ _ _ _ (tails _ _ _ _ ds) in
+    let c = heads _ _ _ _ (tails _ _ _ _ (tails _ _ _ _ ds)) in
+    let j = heads _ _ _ _ (tails _ _ _ _ (tails _ _ _ _ (tails _ _ _ _ ds))) in
+    let name : w.name ≡ v.name = same_Some _ _ (sym (name_under w.costs w.name w.points) ∙ (ap (λ x. option_and_then as_str (get (codes "name") x)) i ∙ name_under v.costs v.name v.points)) in
     let points : w.points ≡ v.points = ok_same _ _ (sym (points_in-with_costs w.costs w.name w.points ∙ points_in-instance_data w.name w.points h.points h.small) ∙ (ap points_in i ∙ (points_in-with_costs v.costs v.name v.points ∙ points_in-instance_data v.name v.points k.points k.small))) in
     let n = length w.points in
     let m : length v.points ≡ n = ap length (sym points) in

@@ -1,7 +1,7 @@
 -- What the lines of a report are read as is within the limits of the formats.
 use Rattle.std.proofs.Common.{◌≡◌, ℕ, zero, suc, ◌+◌, ◌-◌, ◌^◌, ◌<◌, ◌≤◌, ◌⊎◌, min, max, List, [], ◌∷◌, length, Bool, true, false, cond, not, ◌&&◌, eqb, nat_le, nat_lt, ℤ, pos, negsuc, Option, Some, None, is_some, option_map, option_and_then, unwrap_or, Result, Ok, Err, All, codes, inl, inr, refl, sym, ap, ◌∙◌, subst, arith}
 use Rattle.std.specs.List.{filter_map, cons_option, position}
-use Rattle.std.proofs.lemmas.Bool.{and_parts, cases_eq}
+use Rattle.std.proofs.lemmas.Bool.{and_parts, cases_eq, ltb-true}
 use Rattle.std.proofs.lemmas.Bool.Decides.{nat_tests}
 use Rattle.serde_json.specs.Data.{Data}
 use Rattle.serde_json.specs.Find.{get, as_str, as_bool}
@@ -23,11 +23,10 @@ use Rattle.report_io.specs.declared.faults.Field.TheVariants as key
 use Rattle.report_io.specs.declared.faults.Field.{Field}
 use Rattle.report_io.specs.Limits.{IsSummaryWithin}
 use Rattle.report_io.proofs.laws.PartLimits.{IsEditItem, IsRowItem, IsCommitItem, AreSolutionParts, AreCertificateParts, AreJournalParts, AreLaterParts}
+use Rattle.std.proofs.lemmas.Option.{same_Some}
+use Rattle.report_io.proofs.laws.Once.{ok_is}
 
 -- ---- steps that gave something
-
-some_same : {A : Type 0} (x y : A) → Some x ≡ Some y → x ≡ y
-some_same x y e = cc
 
 pub some_of : {A B : Type 0} (f : A → Option B) (o : Option A) (y : B) → option_and_then f o ≡ Some y → (x : A) × (o ≡ Some x) × (f x ≡ Some y)
 some_of f None y h = absurd (cc)
@@ -35,14 +34,14 @@ some_of f (Some x) y h = (x, refl, h)
 
 pub mapped_of : {A B : Type 0} (f : A → B) (o : Option A) (y : B) → option_map f o ≡ Some y → (x : A) × (o ≡ Some x) × (f x ≡ y)
 mapped_of f None y h = absurd (cc)
-mapped_of f (Some x) y h = (x, refl, some_same (f x) y h)
+mapped_of f (Some x) y h = (x, refl, same_Some (f x) y h)
 
 either_of : {A : Type 0} (b : Bool) (x y : Option A) (z : A) → cond b x y ≡ Some z → (x ≡ Some z) ⊎ (y ≡ Some z)
 either_of true x y z h = inl h
 either_of false x y z h = inr h
 
 if_of : {A : Type 0} (b : Bool) (x y : A) → cond b (Some x) None ≡ Some y → (b ≡ true) × (x ≡ y)
-if_of true x y h = (refl, some_same x y h)
+if_of true x y h = (refl, same_Some x y h)
 if_of false x y h = absurd (cc)
 
 where_of : {A : Type 0} (b : Bool) (o : Option A) (y : A) → cond b o None ≡ Some y → (b ≡ true) × (o ≡ Some y)
@@ -57,9 +56,6 @@ none_of y h = cc
 le_true : (a b : ℕ) → nat_le a b ≡ true → a ≤ b
 le_true a b h = grind (arith, nat_tests)
 
-lt_true : (a b : ℕ) → nat_lt a b ≡ true → a < b
-lt_true a b h = grind (arith, nat_tests)
-
 pub number_within-some : (low high : ℕ) (d : Data) (k : ℕ) → number_within low high d ≡ Some k → (low ≤ k) × (k ≤ high)
 number_within-some low high d k h =
     let (n, at, is) = some_of (if_within low high) (natural d) k h in
@@ -71,13 +67,13 @@ pub index-some : (n : ℕ) (d : Data) (k : ℕ) → index n d ≡ Some k → k <
 index-some n d k h =
     let (i, at, is) = some_of (if_below n) (natural d) k h in
     let (test, same) = if_of (nat_lt i n) i k is in
-    subst (λ k. k < n) same (lt_true i n test)
+    subst (λ k. k < n) same (ltb-true i n test)
 
 pair_of-some : (n i j : ℕ) (e : ℕ × ℕ) (b : Bool) → eqb i j ≡ b → i < n → j < n → cond b None (Some (min i j, max i j)) ≡ Some e → IsEdge n e
 pair_of-some n i j e true t h k s = absurd (none_of e s)
 pair_of-some n i j e false t h k s =
     let edge : IsEdge n (min i j, max i j) = (lower i j t, upper i j n h k) in
-    subst (IsEdge n) (some_same (min i j, max i j) e s) edge
+    subst (IsEdge n) (same_Some (min i j, max i j) e s) edge
   where
     lower : (i j : ℕ) → eqb i j ≡ false → min i j < max i j
     lower i j t = grind (arith, nat_tests)
@@ -172,7 +168,7 @@ start_of-some n d e h = let (ds, at, is) = some_of (start_in n) (array_list d) e
 
 pub all_of-some : {A : Type 0} (P : A → Type 0) (read : Data → Option A) (ds : List Data) (xs : List A) → ((d : Data) (x : A) → read d ≡ Some x → P x) → all_of read ds ≡ Some xs
     → Each P xs × (length xs ≡ length ds)
-all_of-some P read [] xs is h = subst (λ ys. Each P ys × (length ys ≡ 0)) (some_same [] xs h) (tt, refl)
+all_of-some P read [] xs is h = subst (λ ys. Each P ys × (length ys ≡ 0)) (same_Some [] xs h) (tt, refl)
 all_of-some P read (d ∷ ds) xs is h =
     let (x, at, more) = some_of (λ x. option_map (λ ys. x ∷ ys) (all_of read ds)) (read d) xs h in
     let (ys, rest, same) = mapped_of (λ ys. x ∷ ys) (all_of read ds) xs more in
@@ -247,9 +243,6 @@ or_ok : {A : Type 0} (f : ReportFault) (o : Option A) (x : A) → or_fault f o �
 or_ok f None x h = absurd (cc)
 or_ok f (Some y) x h = cc
 
-ok_is : {A : Type 0} (x y : A) → ◌≡◌ {A = Result A ReportFault} (Ok x) (Ok y) → x ≡ y
-ok_is x y h = cc
-
 -- the number under a key is within its limits
 number_field : (f : ReportFault) (name : List ℕ) (low high : ℕ) (d : Data) (k : ℕ) → or_fault f (option_and_then (number_within low high) (get name d)) ≡ Ok k → (low ≤ k) × (k ≤ high)
 number_field f name low high d k h =
@@ -264,7 +257,7 @@ whole_below-edge : (n i j : ℕ) (e : ℕ × ℕ) → i < n → j < n → pair_o
 whole_below-edge n i j e h k s = pair_of-some n i j e (eqb i j) refl h k s
 
 below-some : (n : ℕ) (z : ℤ) (k : ℕ) → below n z ≡ Some k → k < n
-below-some n (pos i) k h = let (test, same) = if_of (nat_lt i n) i k h in subst (λ k. k < n) same (lt_true i n test)
+below-some n (pos i) k h = let (test, same) = if_of (nat_lt i n) i k h in subst (λ k. k < n) same (ltb-true i n test)
 below-some n (negsuc i) k h = absurd (none_of k h)
 
 edge_of-some : (n : ℕ) (d : Data) (e : ℕ × ℕ) → solution.edge_of n d ≡ Some e → IsEdge n e

@@ -30,7 +30,7 @@ use Rattle.report_io.proofs.laws.PartLimits.{AreLaterParts}
 use Rattle.report_io.proofs.laws.PartsPlain.{certificate_plain, journal_plain, summary_plain}
 use Rattle.report_io.proofs.laws.LaterBack.{later_back}
 use Rattle.report_io.proofs.laws.Within.{later_told}
-use Rattle.report_io.proofs.laws.Once.{report_once}
+use Rattle.report_io.proofs.laws.Once.{report_once, ok_is}
 
 -- what a report's types say of it
 pub record IsTyped (r : Report) : Type 0 where
@@ -102,9 +102,6 @@ five_of (a ∷ b ∷ c ∷ d ∷ e ∷ ls) = record { first = a; second = b; thi
 pub lines_once : (bytes : List ℕ) (L M : FiveLines) → HasLines bytes L → HasLines bytes M → L ≡ M
 unfolding five_of
 lines_once bytes L M h k = ap five_of (sym h ∙ k)
-
-ok_is : {A : Type 0} (x y : A) → ◌≡◌ {A = Result A ReportFault} (Ok x) (Ok y) → x ≡ y
-ok_is x y h = cc
 
 -- a text gives one report at most
 pub gives_once : (bytes : List ℕ) (r s : Report) → Gives bytes r → Gives bytes s → r ≡ s

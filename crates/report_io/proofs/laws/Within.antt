@@ -58,6 +58,13 @@ commit_told n c h =
 both : {X : Type 0} (P Q : X → Type 0) (xs : List X) → All P xs → All Q xs → All (λ x. P x × Q x) xs
 both P Q xs h k i d l = (h i d l, k i d l)
 
+pub rows_told : (S : List Point) (rows : List Row) → All (IsIndexed S) rows → All (λ x. weight x ≤ 1000000000000) rows → Each (IsRowItem (length S)) (map row_item rows)
+rows_told S rows indexed light =
+    told_each (λ (x : Row). IsIndexed S x × (weight x ≤ 1000000000000)) (IsRowItem (length S)) row_item rows (row_told S) (both (IsIndexed S) (λ (x : Row). weight x ≤ 1000000000000) rows indexed light)
+
+pub commits_told : (n : ℕ) (J : List Commit) → All (IsCommitWithin n) J → Each (IsCommitItem n) (map commit_item J)
+commits_told n J h = told_each (IsCommitWithin n) (IsCommitItem n) commit_item J (commit_told n) h
+
 pub later_told : (r : Report) → AreLaterWithin r → AreLaterParts (length r.instance.points) (later_parts r)
 later_told r h =
     let S = r.instance.points in
@@ -66,14 +73,14 @@ later_told r h =
       solution = record { few = omega (arith, length-map r.solution ends, h.few); pairs = pairs_told n r.solution h.solution };
       certificate = record {
         q = h.certificate.q;
-        rows = told_each (λ (x : Row). IsIndexed S x × (weight x ≤ 1000000000000)) (IsRowItem n) row_item r.certificate.rows (row_told S) (both (IsIndexed S) (λ (x : Row). weight x ≤ 1000000000000) r.certificate.rows h.certificate.indexed h.certificate.light);
+        rows = rows_told S r.certificate.rows h.certificate.indexed h.certificate.light;
         value = h.value;
       };
       journal = record {
         few = omega (arith, length-map r.start ends, h.journal.few);
         start = pairs_told n r.start h.journal.pairs;
         short = omega (arith, length-map r.commits commit_item, h.journal.count);
-        commits = told_each (IsCommitWithin n) (IsCommitItem n) commit_item r.commits (commit_told n) h.journal.commits;
+        commits = commits_told n r.commits h.journal.commits;
       };
       summary = h.summary;
     }

@@ -15,7 +15,7 @@ use Rattle.journal_defs.specs.declared.edit.Edit.TheVariants.{Drop}
 use Rattle.journal_defs.specs.declared.commit.Commit.{Commit}
 use Rattle.journal_defs.specs.Edits.{State, IsSound, after}
 use Rattle.journal_defs.specs.Journal.{opening, replay, made, HasSize, IsSwept, drops}
-use Rattle.journal_defs.proofs.laws.Later.{legal_drops, seqs_drops, swept_minimal, replay_drops, one_sweep}
+use Rattle.journal_defs.proofs.laws.Later.{legal_drops, seqs_drops, swept_minimal, replay_drops, one_sweep, dropped_count, drops_count}
 use Rattle.journal_defs.proofs.laws.Start.{sound_opening}
 use Rattle.price_defs.specs.declared.row.Certificate.{Certificate}
 use Rattle.price_defs.specs.declared.row.TheConstants.{MOST_DIVISOR}
@@ -24,19 +24,6 @@ use Rattle.search_defs.specs.Best.{IsBest}
 use Rattle.solve_defs.specs.Solved.{IsNoDearer, IsSweeps, IsManned, IsSolved}
 use Rattle.solve_defs.specs.PlainRun.{IsSweepJournal}
 use Rattle.solve_defs.proofs.laws.Bests.{IsAboveFloor, best_above}
-
--- a sweep drops no more pairs than it goes through
-dropped_count : (S : List Point) (s : State) (pairs dropped : List Pair) → IsSwept S s pairs dropped → length dropped ≤ length pairs
-dropped_count S s [] dropped swept = subst (λ (d : List Pair). length d ≤ 0) (sym swept) (omega arith)
-dropped_count S s (x ∷ pairs) dropped (inl (legal, (rest, is, swept))) =
-    let few : length rest ≤ length pairs = dropped_count S (after (Drop x) s) pairs rest swept in
-    subst (λ (d : List Pair). length d ≤ suc (length pairs)) (sym is) (omega (arith, few))
-dropped_count S s (x ∷ pairs) dropped (inr (illegal, swept)) =
-    let few : length dropped ≤ length pairs = dropped_count S s pairs dropped swept in omega (arith, few)
-
-drops_count : (n : ℕ) (dropped : List Pair) → length (drops n dropped) ≡ length dropped
-drops_count n [] = refl
-drops_count n (e ∷ dropped) = ap suc (drops_count (n + 1) dropped)
 
 -- all of its commits are of caller 0
 drops_made : (n : ℕ) (dropped : List Pair) → made 0 (drops n dropped) ≡ length dropped

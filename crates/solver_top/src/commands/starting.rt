@@ -1,12 +1,11 @@
 // The command `start`.
-ghost use Rattle.std.specs.Prelude.{◌≡◌, ◌≢◌, IfOk};
+ghost use Rattle.std.specs.Prelude.{IfOk};
 ghost use Rattle.text_defs.specs.Instances.{instance_from};
-ghost use Rattle.instance_io.specs.Refusal.{Gives, HasFault};
+ghost use Rattle.instance_io.specs.Refusal.{Gives};
 ghost use Rattle.solver_top.specs.Starting.{IsStarted};
 
 use crate::answers::Answer;
-use crate::lines::refusal_line;
-use crate::refusals::Refusal;
+use crate::commands::refusing::refused_instance;
 use crate::status::Verdict;
 use instance_io::{Instance, InstanceFault, read_instance};
 use mcp_outside::NoMemory;
@@ -23,16 +22,6 @@ pub fn started(alloc: Global, bytes: &[u8]) -> Result<Answer, NoMemory>
         Err(InstanceFault::NoMemory) => Err(NoMemory),
         Err(fault) => refused_instance(alloc, bytes, fault),
     }
-}
-
-// The refusal of an input.
-fn refused_instance(alloc: Global, bytes: &[u8], fault: InstanceFault) -> Result<Answer, NoMemory>
-    requires named { fault ≢ InstanceFault.NoMemory }
-    requires fault { HasFault (instance_from bytes.now) fault }
-    ensures { IfOk result (λ answer. IsStarted bytes.now answer.verdict answer.text.items) }
-{
-    let line = refusal_line(alloc, &Refusal::Instance(fault))?;
-    Ok(Answer::of_line(Verdict::Refused, line))
 }
 
 // The start of the instance that an input is.

@@ -10,7 +10,7 @@ pub levels-nil : levels [] ≡ 0
 unfolding levels unquoted
 levels-nil = rw pieces-nil refl
 
-one-more : (n : ℕ) → 1 + n ≡ suc n
+pub one-more : (n : ℕ) → 1 + n ≡ suc n
 one-more n = omega arith
 
 pub levels-quote : (cs : List ℕ) → 0 < length cs → get_or cs 0 0 ≡ 34 → levels cs ≡ levels (drop (1 + string_len (drop 1 cs)) cs)

@@ -11,6 +11,7 @@ use Rattle.text_defs.proofs.laws.IsPlain.{IsPlain, ItemsArePlain, MembersArePlai
 use Rattle.text_defs.specs.Lines.{put_first, lines, line_text, lines_text}
 use Rattle.text_defs.proofs.laws.Whole.{are_number_bytes, number_bytes}
 use Rattle.text_defs.proofs.laws.PlainTexts.{one_value}
+use Rattle.text_defs.proofs.laws.Lists.{heads, tails}
 
 abbrev pub unfed : List ℕ → Bool
 unfed [] = true
@@ -101,12 +102,6 @@ IsLine d = IsPlain d × (depth d ≤ 64)
 plain_lines : (ds : List Data) → Each IsLine ds → Each IsPlain ds
 plain_lines [] h = tt
 plain_lines (d ∷ ds) h = (h.0.0, plain_lines ds h.1)
-
-heads : {A : Type 0} (x y : A) (xs ys : List A) → x ∷ xs ≡ y ∷ ys → x ≡ y
-heads x y xs ys e = cc
-
-tails : {A : Type 0} (x y : A) (xs ys : List A) → x ∷ xs ≡ y ∷ ys → xs ≡ ys
-tails x y xs ys e = cc
 
 texts_fix : (ds es : List Data) → Each IsLine ds → Each IsLine es → map compact_text ds ≡ map compact_text es → ds ≡ es
 texts_fix [] [] h k e = refl

@@ -52,3 +52,10 @@ pub item_at-get_or : (ds : List Data) (k : ℕ) → item_at ds k ≡ get_or ds k
 item_at-get_or [] k = refl
 item_at-get_or (d ∷ ds) zero = refl
 item_at-get_or (d ∷ ds) (suc k) = item_at-get_or ds k
+
+-- two lists that are one have one first item, and one rest
+pub heads : {A : Type 0} (x y : A) (xs ys : List A) → x ∷ xs ≡ y ∷ ys → x ≡ y
+heads x y xs ys e = cc
+
+pub tails : {A : Type 0} (x y : A) (xs ys : List A) → x ∷ xs ≡ y ∷ ys → xs ≡ ys
+tails x y xs ys e = cc

@@ -11,6 +11,7 @@ use Rattle.text_defs.proofs.laws.IsPlain.{IsPlain, ItemsArePlain, MembersArePlai
 use Rattle.text_defs.proofs.laws.ReadBack.{read-compact_text}
 use Rattle.text_defs.proofs.laws.Whole.{number_ascii}
 use Rattle.text_defs.proofs.laws.PiecesWritten.{rewritten-compact_text, levels-compact_text}
+use Rattle.std.proofs.lemmas.Option.{same_Some}
 
 byte_then : (b : ℕ) (t : List ℕ) → IsUtf8 (b ∷ []) → IsUtf8 t → IsUtf8 (b ∷ t)
 byte_then b t u v = IsUtf8-append (b ∷ []) t u v
@@ -43,9 +44,6 @@ json_reading-compact_text d h shallow =
     let same = rewritten-compact_text d h in
     json_reading-read (compact_text d) d (le-leb _ 64 (omega (arith, levels-compact_text d h))) (subst IsUtf8 (sym same) (utf8_text d h)) (ap read same ∙ read-compact_text d h (omega arith))
 
-some_same : {A : Type 0} (x y : A) → Some x ≡ Some y → x ≡ y
-some_same x y e = cc
-
 -- A text fixes its plain value.
 pub one_value : (d e : Data) → IsPlain d → IsPlain e → depth d ≤ 64 → depth e ≤ 64 → compact_text d ≡ compact_text e → d ≡ e
-one_value d e h k m n same = some_same d e (sym (json_reading-compact_text d h m) ∙ (ap json_reading same ∙ json_reading-compact_text e k n))
+one_value d e h k m n same = same_Some d e (sym (json_reading-compact_text d h m) ∙ (ap json_reading same ∙ json_reading-compact_text e k n))

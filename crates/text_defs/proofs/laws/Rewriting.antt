@@ -4,13 +4,11 @@ use Rattle.std.specs.List.{prefix_len}
 use Rattle.text_defs.specs.Pieces.{is_number_byte, is_other, string_len}
 use Rattle.text_defs.specs.Numbers.{replacement, rewritten}
 use Rattle.text_defs.proofs.laws.Pieces.{pieces-nil, pieces-quote, pieces-run, pieces-other}
+use Rattle.text_defs.proofs.laws.Levels.{one-more}
 
 pub rewritten-nil : rewritten [] ≡ []
 unfolding rewritten
 rewritten-nil = rw pieces-nil refl
-
-one-more : (n : ℕ) → 1 + n ≡ suc n
-one-more n = omega arith
 
 pub rewritten-quote : (cs : List ℕ) → 0 < length cs → get_or cs 0 0 ≡ 34
     → rewritten cs ≡ take (1 + string_len (drop 1 cs)) cs ++ rewritten (drop (1 + string_len (drop 1 cs)) cs)

@@ -15,4 +15,4 @@ returns-then-is_elsewhere-clause-settled c =
 
 pub returns-clause-settled : goal.returns-clause-settled
 returns-clause-settled c =
-    raised_settled c.args.points.now c.args.costs.now c.args.q c.args.p c.args.k c.args.kept.now.rows c.raise_row.new.kept.rows c.args.ends.now.items c.raise_row.new.ends.items c.raise_row.ensures.rows c.raise_row.ensures.ends c.requires.valid c.requires.settled
+    raised_settled c.args.points.now c.args.costs.now c.args.q c.args.p c.args.k c.args.kept.now.rows c.fill_row.new.kept.rows c.args.ends.now.items c.fill_row.new.ends.items c.fill_row.ensures.rows c.fill_row.ensures.ends c.requires.valid c.requires.settled

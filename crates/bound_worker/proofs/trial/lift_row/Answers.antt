@@ -7,9 +7,9 @@ use Rattle.bound_worker.proofs.trial.lift_row.Goals as goal
 
 pub returns-in-Some-clause-lifted : goal.returns-in-Some-clause-lifted
 returns-in-Some-clause-lifted c =
-    lifted_at c.args.points.now c.args.costs.now c.args.q c.args.p c.args.r c.in-Some.k c.args.kept.now.rows c.raise_row.new.kept.rows
-    (subst (λ (x : List Row). IsPlace c.args.p c.args.r x (Some c.in-Some.k)) c.rows.ensures.rows c.in-Some.ensures) c.raise_row.ensures.rows
+    lifted_at c.args.points.now c.args.costs.now c.args.q c.args.p c.args.r c.in-Some.k c.args.kept.now.rows c.fill_row.new.kept.rows
+    (subst (λ (x : List Row). IsPlace c.args.p c.args.r x (Some c.in-Some.k)) c.rows.ensures.rows c.in-Some.ensures) c.fill_row.ensures.rows
 
 pub returns-in-Some-clause-settled : goal.returns-in-Some-clause-settled
 returns-in-Some-clause-settled c =
-    lifted_settled c.args.points.now c.args.costs.now c.args.q c.args.p c.in-Some.k c.args.kept.now.rows c.raise_row.new.kept.rows c.args.ends.now.items c.raise_row.new.ends.items c.raise_row.ensures.rows c.raise_row.ensures.ends c.requires.valid c.requires.settled
+    lifted_settled c.args.points.now c.args.costs.now c.args.q c.args.p c.in-Some.k c.args.kept.now.rows c.fill_row.new.kept.rows c.args.ends.now.items c.fill_row.new.ends.items c.fill_row.ensures.rows c.fill_row.ensures.ends c.requires.valid c.requires.settled

@@ -14,6 +14,9 @@ returns-clause-answer c = (
       ∙ ap₂ (λ (h : ℕ) (rows : List Row). value h c.args.certificate.now.q rows) (cost_of_list c.args.points.now c.args.costs.now c.border_cost.result B c.border_cost.ensures.cost list) c.as_slice-rows.ensures,
 )
 
+pub returns-clause-border : goal.returns-clause-border
+returns-clause-border c = (c.border_cost.ensures.cost.0, c.border_cost.ensures.cost.1)
+
 pub returns-clause-bound : goal.returns-clause-bound
 returns-clause-bound c = λ v K e convex distinct.
     let valid : IsValid c.args.points.now c.args.costs.now c.args.certificate.now.q c.args.certificate.now.rows = c.in_ok-check_rows.ensures in

@@ -1,7 +1,7 @@
 use Rattle.std.proofs.Common.{◌≡◌, ℕ, arith}
 use Rattle.plane.specs.declared.coordinates.Point.{Point}
 use Rattle.plane.specs.Geometry.{point}
-use Rattle.cp_judge.proofs.Boxing.{set_more}
+use Rattle.crossings.proofs.laws.Blocks.{set_more}
 use Rattle.cp_judge.proofs.blocks.copy_points.Goals as goal
 
 pub loop-k-preserved : goal.loop-k-preserved

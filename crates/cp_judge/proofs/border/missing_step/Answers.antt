@@ -1,4 +1,4 @@
-use Rattle.cp_judge.proofs.Items.{refused}
+use Rattle.number_laws.proofs.Tests.{refused}
 use Rattle.cp_judge.proofs.Steps.{step_missing, step_joined}
 use Rattle.cp_judge.proofs.border.missing_step.Goals as goal
 

@@ -1,6 +1,6 @@
 use Rattle.std.proofs.Common.{sym}
 use Rattle.cp_judge.proofs.Items.{not_clear_found, clear_more}
-use Rattle.cp_judge.proofs.Boxing.{corners_replicate}
+use Rattle.cp_judge.proofs.Placed.{corners_replicate}
 use Rattle.cp_judge.proofs.clear.first_not_clear.Goals as goal
 
 pub first_between-requires-clause-within : goal.first_between-requires-clause-within
@@ -13,6 +13,9 @@ returns-in-Some c =
 
 pub set_blocks-requires-clause-corners : goal.set_blocks-requires-clause-corners
 set_blocks-requires-clause-corners c = corners_replicate 157 c.around-bounds.result c.around-bounds.ensures.near
+
+pub set_blocks-requires-clause-strip_corners : goal.set_blocks-requires-clause-strip_corners
+set_blocks-requires-clause-strip_corners c = corners_replicate 18 c.around-strips.result c.around-strips.ensures.near
 
 pub loop-e-preserved : goal.loop-e-preserved
 loop-e-preserved c =

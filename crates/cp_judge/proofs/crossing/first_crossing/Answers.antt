@@ -1,6 +1,6 @@
 use Rattle.std.proofs.Common.{sym, arith, ℕ, ◌<◌, ◌+◌, length}
 use borrow.Author.Count.{below_more}
-use Rattle.cp_judge.specs.Violation.{AreCrossingAt}
+use Rattle.crossings.specs.Crossings.{DoCrossAt}
 use Rattle.cp_judge.proofs.Items.{crossing_found, plane_from}
 use Rattle.cp_judge.proofs.crossing.first_crossing.Goals as goal
 
@@ -12,7 +12,7 @@ returns-in-Some c =
 
 pub loop-a-preserved : goal.loop-a-preserved
 loop-a-preserved c =
-    let P : ℕ → Type 0 = λ k. (m : ℕ) → k < m → m < length c.args.list.now → ¬ AreCrossingAt c.args.points.now c.args.list.now k m in
+    let P : ℕ → Type 0 = λ k. (m : ℕ) → k < m → m < length c.args.list.now → ¬ DoCrossAt c.args.points.now c.args.list.now k m in
     let more : (k : ℕ) → k < c.loop-a.a + 1 → P k =
     below_more P c.loop-a.a (λ k l m. c.loop-a.invariant k m l) (λ m. c.in_default.ensures m) in
     λ k m l. more k l m

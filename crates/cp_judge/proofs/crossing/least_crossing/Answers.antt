@@ -1,10 +1,10 @@
 use Rattle.std.proofs.Common.{arith}
-use Rattle.cp_judge.proofs.Ranges.{none_before, one_more}
+use Rattle.cp_judge.proofs.Sweeping.{none_before, one_more}
 use Rattle.cp_judge.proofs.crossing.least_crossing.Goals as goal
 
 pub loop-k-preserved : goal.loop-k-preserved
-loop-k-preserved c = one_more c.args.points.now c.args.list.now c.args.spans.now c.loop-k.least c.least_crossing_at-least.result c.loop-k.k
+loop-k-preserved c = one_more c.args.points.now c.args.list.now c.args.segments.now c.loop-k.least c.least_crossing_at-least.result c.loop-k.k
     c.least_crossing_at-least.ensures.below c.least_crossing_at-least.ensures.met c.loop-k.invariant
 
 pub returns : goal.returns
-returns c = none_before c.args.points.now c.args.list.now c.args.spans.now c.loop-k.least c.requires.spans (λ i j l m. c.loop-k.invariant i j (omega arith) l m)
+returns c = none_before c.args.points.now c.args.list.now c.args.segments.now c.loop-k.least c.requires.segments (λ i j l m. c.loop-k.invariant i j (omega arith) l m)

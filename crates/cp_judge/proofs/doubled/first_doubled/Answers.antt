@@ -1,7 +1,8 @@
 use Rattle.std.proofs.Common.{ℕ, arith}
 use borrow.Author.Count.{below_more}
 use Rattle.cp_judge.specs.Violation.{IsRepeatedAt}
-use Rattle.cp_judge.proofs.Items.{refused, distinct_from}
+use Rattle.cp_judge.proofs.Items.{distinct_from}
+use Rattle.number_laws.proofs.Tests.{refused}
 use Rattle.cp_judge.proofs.Distinct.{ascending_distinct}
 use Rattle.cp_judge.proofs.doubled.first_doubled.Goals as goal
 use Rattle.cp_judge.proofs.doubled.first_doubled.Goals.{then-is_ascending-via-then-is_ascending, then-is_ascending-via-else-is_ascending+then-ascends_when_sorted}

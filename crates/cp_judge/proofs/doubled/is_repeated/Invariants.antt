@@ -1,5 +1,5 @@
 use Rattle.std.proofs.Common.{◌<◌, ℕ}
-use Rattle.cp_judge.specs.Violation.{IsPairAt}
+use Rattle.crossings.specs.Crossings.{IsPairAt}
 use Rattle.cp_judge.proofs.doubled.is_repeated.Given as goal
 
 abbrev pub invariant-loop-j : goal.invariant-loop-j

@@ -1,12 +1,13 @@
 use Rattle.std.proofs.Common.{refl}
 use Rattle.cp_judge.specs.Searching.{IsMetBy}
-use Rattle.cp_judge.proofs.Marks.{end_in, met_by_end, marks_kept}
+use Rattle.cp_judge.proofs.Marks.{met_by_end, marks_kept}
 use Rattle.std.proofs.Common.{length}
 use Rattle.cp_judge.proofs.needs.mark_by.Goals as goal
+use Rattle.partition_defs.proofs.laws.Joined.{other_within}
 
 pub mark_seen-requires-clause-r_in : goal.mark_seen-requires-clause-r_in
 mark_seen-requires-clause-r_in c =
-    end_in c.args.e c.args.p c.in-Some.r (length c.args.points.now) ((c.in-Some.ensures c.in-Some.r).1 refl) c.requires.e_in
+    other_within c.args.e c.args.p c.in-Some.r (length c.args.points.now) ((c.in-Some.ensures c.in-Some.r).1 refl) c.requires.e_in
 
 pub returns-in-Some : goal.returns-in-Some
 returns-in-Some c =

@@ -3,5 +3,5 @@ use Rattle.crossings.specs.Crossings.{CrossesLater}
 use Rattle.crossings.specs.Segments.{segment}
 use Rattle.crossings.proofs.blocks.may_cross.Given as goal
 
-abbrev pub invariant-loop-i : goal.invariant-loop-i
-invariant-loop-i l = (k : ℕ) → k < 32 * l.i → k < length l.segments → ¬ CrossesLater l.points l.list l.z.place (segment l.segments k).place
+abbrev pub invariant-loop-g : goal.invariant-loop-g
+invariant-loop-g l = (k : ℕ) → k < 256 * l.g → k < length l.segments → ¬ CrossesLater l.points l.list l.z.place (segment l.segments k).place

@@ -1,5 +1,5 @@
 use Rattle.crossings.specs.Crossings.{AreFirstPairs}
-use Rattle.crossings.specs.Segments.{CrossesBefore}
+use Rattle.crossings.specs.Trying.{CrossesBefore}
 use Rattle.crossings.proofs.crossing.add_crossed.Given as goal
 
 abbrev pub invariant-loop-b : goal.invariant-loop-b

@@ -12,7 +12,7 @@ segment_of-z-requires c = c.requires.within c.index-list-a.result (c.args.a, c.r
 pub may_cross-requires-clause-z_of : goal.may_cross-requires-clause-z_of
 may_cross-requires-clause-z_of c =
     let P : ℕ → Type 0 = λ k. IsPairAt c.args.list.now k c.index-list-a.result in
-    (c.index-list-a.result, subst P (sym c.segment_of-z.ensures.place) (c.requires.a_in, sym c.index-list-a.is), c.segment_of-z.ensures.ends, c.segment_of-z.ensures.near_from, c.segment_of-z.ensures.near_to)
+    (c.index-list-a.result, subst P (sym c.segment_of-z.ensures.place) (c.requires.a_in, sym c.index-list-a.is), c.segment_of-z.ensures.ends, c.segment_of-z.ensures.near_from, c.segment_of-z.ensures.near_to, c.segment_of-z.ensures.forward)
 
 pub returns-then-not-may_cross : goal.returns-then-not-may_cross
 returns-then-not-may_cross c =

@@ -1,8 +1,9 @@
 use Rattle.std.proofs.Common.{rules, List, ℕ, ◌+◌, subst, sym, arith}
 use Rattle.crossings.specs.Crossings.{AreFirstPairs}
-use Rattle.crossings.specs.Segments.{CrossesBefore}
-use Rattle.crossings.proofs.Firsts.{full_over, passed_over, pushed, refused}
+use Rattle.crossings.specs.Trying.{CrossesBefore}
+use Rattle.crossings.proofs.Firsts.{full_over, passed_over, pushed}
 use Rattle.crossings.proofs.crossing.add_if_crossing.Goals as goal
+use Rattle.number_laws.proofs.Tests.{refused}
 
 pub returns-then-len-most : goal.returns-then-len-most
 returns-then-len-most c = full_over c.args.points.now c.args.list.now c.args.a c.args.b c.args.most c.args.found.now.items (omega arith) c.requires.so_far

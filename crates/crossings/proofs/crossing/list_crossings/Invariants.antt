@@ -1,5 +1,5 @@
 use Rattle.crossings.specs.Crossings.{AreFirstPairs}
-use Rattle.crossings.specs.Segments.{CrossesBefore}
+use Rattle.crossings.specs.Trying.{CrossesBefore}
 use Rattle.crossings.proofs.crossing.list_crossings.Given as goal
 
 abbrev pub invariant-loop-a : goal.invariant-loop-a

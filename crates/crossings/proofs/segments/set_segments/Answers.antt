@@ -1,4 +1,4 @@
-use Rattle.crossings.proofs.Placed.{segments_moved}
+use Rattle.crossings.proofs.laws.Blocks.{segments_moved}
 use Rattle.crossings.proofs.segments.set_segments.Goals as goal
 
 pub returns : goal.returns

@@ -2,9 +2,9 @@ use Rattle.std.proofs.Common.{rules, ◌≡◌, ◌+◌, ℕ, List, sym, subst, 
 use Rattle.plane.specs.declared.segment.Pair.{Pair}
 use Rattle.plane.specs.Geometry.{IsClear}
 use Rattle.directions.specs.Listing.{AreClearBefore}
-use Rattle.directions.proofs.Coming.{refused}
 use Rattle.directions.proofs.Listing.{passed, pushed}
 use Rattle.directions.proofs.clear.add_if_clear.Goals as goal
+use Rattle.number_laws.proofs.Tests.{refused}
 
 pub returns-then-not-has : goal.returns-then-not-has
 returns-then-not-has c =

@@ -2,8 +2,8 @@ use Rattle.std.proofs.Common.{rules, ◌-◌, inl, inr, refl, arith}
 use Rattle.std.specs.Prelude.{slice_index}
 use Rattle.std.proofs.lemmas.List.Elements.{Contains-get_or}
 use Rattle.directions.proofs.Cleared.{nearest_clear, untrue}
-use Rattle.directions.proofs.Coming.{refused}
 use Rattle.directions.proofs.clear.is_nearest.Goals as goal
+use Rattle.number_laws.proofs.Tests.{refused}
 
 pub returns-then-i-eq0 : goal.returns-then-i-eq0
 returns-then-i-eq0 c = (

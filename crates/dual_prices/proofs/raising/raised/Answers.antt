@@ -10,7 +10,7 @@ make-requires-clause-light c =
 
 pub loop-k-preserved : goal.loop-k-preserved
 loop-k-preserved c = (
-  raising_more c.args.points.now c.args.costs.now c.args.certificate.q _ c.loop-k.kept.rows c.raise_row.new.kept.rows c.loop-k.k c.requires.divisor c.list-listed.ensures.costs.within c.raise_row.ensures.rows c.loop-k.invariant.0,
-  c.raise_row.ensures.points ∙ c.loop-k.invariant.1,
-  raised_length c.args.points.now c.args.costs.now c.args.certificate.q c.loop-k.kept.rows c.loop-k.k c.raise_row.new.kept.rows c.raise_row.ensures.rows ∙ c.loop-k.invariant.2,
+  raising_more c.args.points.now c.args.costs.now c.args.certificate.q _ c.loop-k.kept.rows c.raise_next.new.kept.rows c.loop-k.k c.requires.divisor c.list-listed.ensures.costs.within c.raise_next.ensures.rows c.loop-k.invariant.0,
+  c.raise_next.ensures.points ∙ c.loop-k.invariant.1,
+  raised_length c.args.points.now c.args.costs.now c.args.certificate.q c.loop-k.kept.rows c.loop-k.k c.raise_next.new.kept.rows c.raise_next.ensures.rows ∙ c.loop-k.invariant.2,
 )

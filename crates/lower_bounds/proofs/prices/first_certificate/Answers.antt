@@ -4,7 +4,7 @@ use Rattle.price_defs.specs.Floor.{IsFloorCertificate}
 use Rattle.price_defs.specs.Loads.{IsValid}
 use Rattle.price_defs.specs.Raising.{AreRaised}
 use Rattle.lower_bounds.specs.Prices.{IsFirst}
-use Rattle.lower_bounds.proofs.Raised.{lost_stays}
+use Rattle.raise_laws.proofs.laws.Raises.{grown_lost}
 use Rattle.lower_bounds.proofs.prices.first_certificate.Goals as goal
 
 pub returns : goal.returns
@@ -20,6 +20,6 @@ returns c =
       valid = raised.valid;
       tight = raised.tight floor.covered;
       divisor = raised.divisor ∙ floor.divisor;
-      takers = lost_stays c.in_ok-floor.floor.rows c.in_ok-certificate.certificate.rows raised.grown ∙ floor.takers;
+      takers = grown_lost c.in_ok-floor.floor.rows c.in_ok-certificate.certificate.rows raised.grown ∙ floor.takers;
       light = raised.light;
     }

@@ -1,4 +1,4 @@
-use Rattle.solver_top.proofs.Complete.{not_refused, not_refused_instance}
+use Rattle.solver_top.proofs.Complete.{not_refused, not_refused_instance, not_refused_report}
 use Rattle.solver_top.proofs.laws.read_or_refused.Goals as goal
 
 pub returns-clause-judge : goal.returns-clause-judge
@@ -6,3 +6,6 @@ returns-clause-judge c = not_refused
 
 pub returns-clause-start : goal.returns-clause-start
 returns-clause-start c = not_refused_instance
+
+pub returns-clause-check : goal.returns-clause-check
+returns-clause-check c = not_refused_report

@@ -2,7 +2,7 @@ use Rattle.std.proofs.Common.{◌≡◌, ◌<◌, ◌≤◌, ◌+◌, ◌-◌, �
 use Rattle.plane.specs.declared.coordinates.Point.{Point}
 use Rattle.plane.specs.declared.segment.Pair.{Pair}
 use Rattle.plane.specs.Accepted.{AreAccepted}
-use Rattle.triangulate.specs.Order.{IsSweepOrder}
+use Rattle.point_order.specs.Order.{IsSweepOrder}
 use Rattle.triangulate.specs.Swept.{IsSwept, IsSweptWhole}
 use Rattle.triangulate.proofs.Ordered.{first_swept, next_of, all_of}
 use Rattle.triangulate.proofs.sweep.sweep_through.Goals as goal

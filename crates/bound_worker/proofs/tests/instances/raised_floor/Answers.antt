@@ -1,5 +1,5 @@
 use Rattle.std.proofs.Common.{◌≤◌, arith}
-use Rattle.bound_worker.proofs.Lists.{grown_lost}
+use Rattle.raise_laws.proofs.laws.Raises.{grown_lost}
 use Rattle.bound_worker.proofs.tests.instances.raised_floor.Goals as goal
 
 pub returns-clause-takers : goal.returns-clause-takers

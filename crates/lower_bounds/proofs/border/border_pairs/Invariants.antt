@@ -1,6 +1,0 @@
-use Rattle.std.specs.Prelude.{take}
-use Rattle.lower_bounds.specs.Border.{AreBorderAmong}
-use Rattle.lower_bounds.proofs.border.border_pairs.Given as goal
-
-abbrev pub invariant-loop-e : goal.invariant-loop-e
-invariant-loop-e l = AreBorderAmong l.points (take l.e-index l.pairs) l.list.items

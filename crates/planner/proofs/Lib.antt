@@ -1,0 +1,13 @@
+pub mod Lists
+pub mod Looks
+pub mod Stepping
+pub mod Stars
+pub mod Free
+pub mod Made
+pub mod Claiming
+pub mod Agreed
+pub mod Fitted
+pub mod Planned
+pub mod Across
+pub mod Slotted
+pub mod Tried

@@ -1,0 +1,5 @@
+pub mod Region
+pub mod Steps
+pub mod Answers
+pub mod Agreeing
+pub mod Claiming

@@ -1,0 +1,4 @@
+pub mod Summaries
+pub mod Relation
+pub mod Verdicts
+pub mod Laws

@@ -1,0 +1,4 @@
+pub mod Reports
+pub mod Headline
+pub mod Texts
+pub mod Same

@@ -1,0 +1,5 @@
+pub mod Enclosed
+pub mod Copied
+pub mod Runs
+pub mod Inside
+pub mod Shown

@@ -1,0 +1,2 @@
+pub mod Apexes
+pub mod Ends

@@ -1,0 +1,4 @@
+pub mod Answers
+pub mod Woven
+pub mod Law
+pub mod Owned

@@ -174,4 +174,3 @@ with_joins e K i j h = let (f, m, ends) = joined K i j h in joins_of (with_one e
 
 pub with_joins_own : (e : Pair) (K : List Pair) (i j : ℕ) → HasEnds e i j → Joins (with_one e K) i j
 with_joins_own e K i j h = joins_of (with_one e K) e i j (with_own e K) h
-

@@ -200,7 +200,8 @@ fn least_crossing_at(
     requires ordered { AreByLeft segments.now }
     requires k_in { k < length segments.now }
     ensures below { result ≤ least }
-    ensures met { (j : ℕ) → k < j → j < length segments.now → IsUpToCrossing points.now list.now result (segment segments.now k) (segment segments.now j) }
+    ensures met { (j : ℕ) → k < j → j < length segments.now
+        → IsUpToCrossing points.now list.now result (segment segments.now k) (segment segments.now j) }
 {
     let z = segments[k];
     let mut least = least;

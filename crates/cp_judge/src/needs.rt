@@ -130,7 +130,8 @@ fn first_unmet_of(
 ) -> Option<u32>
     requires within { AreWithin points.now list.now }
     requires p_in { p < length points.now }
-    ensures { MatchOption result (IsInner points.now p → MeetsNeedsAt points.now list.now p) (λ q. IsInner points.now p × IsLeast (IsUnmetAt points.now list.now p) (length points.now) q) }
+    ensures { MatchOption result (IsInner points.now p → MeetsNeedsAt points.now list.now p)
+        (λ q. IsInner points.now p × IsLeast (IsUnmetAt points.now list.now p) (length points.now) q) }
 {
     if gather_ends(list, p, ends) {
         let q = unmet_among(points, ends.as_slice(), p)?;
@@ -216,7 +217,8 @@ fn first_unmet_beside(
     requires marks { AreOnBorder points.now marks.now }
     requires p_in { p < length points.now }
     requires run { All (Joins list.now p) run.old.items }
-    ensures { MatchOption result (IsInner points.now p → MeetsNeedsAt points.now list.now p) (λ q. IsInner points.now p × IsLeast (IsUnmetAt points.now list.now p) (length points.now) q) }
+    ensures { MatchOption result (IsInner points.now p → MeetsNeedsAt points.now list.now p)
+        (λ q. IsInner points.now p × IsLeast (IsUnmetAt points.now list.now p) (length points.now) q) }
 {
     if marks[p as usize] {
         return None;

@@ -173,7 +173,9 @@ fn is_on(points: &Points, order: &[u32], side: Turn, a: u32, b: u32, k: u32) -> 
     requires a_in { a < length order.now }
     requires b_in { b < length order.now }
     requires k_in { k < length order.now }
-    ensures { IsTrue result → pos 0 ≤ℤ sided side (orientation points.now (slice_index order.now a) (slice_index order.now b) (slice_index order.now k)) }
+    ensures { IsTrue result
+        → pos 0 ≤ℤ sided side (orientation points.now
+        (slice_index order.now a) (slice_index order.now b) (slice_index order.now k)) }
 {
     let turn = points.orient(order[a as usize], order[b as usize], order[k as usize]);
     turn == side || turn == Turn::Straight
@@ -204,7 +206,8 @@ fn has_sides(points: &Points, order: &[u32], side: Turn, chain: &[u32]) -> bool
     requires order { IsOrder points.now order.now }
     requires chain { All (λ k. k < length order.now) chain.now }
     requires some { 1 ≤ length chain.now }
-    ensures { IsTrue result → (i : ℕ) → i + 1 < length chain.now → (slice_index chain.now i < slice_index chain.now (i + 1)) × IsInside points.now order.now chain.now side i }
+    ensures { IsTrue result → (i : ℕ) → i + 1 < length chain.now
+        → (slice_index chain.now i < slice_index chain.now (i + 1)) × IsInside points.now order.now chain.now side i }
 {
     for i in 0..chain.len() - 1 {
         if !has_side(points, order, side, chain[i], chain[i + 1]) {
@@ -220,7 +223,9 @@ fn has_side(points: &Points, order: &[u32], side: Turn, a: u32, b: u32) -> bool
     requires a_in { a < length order.now }
     requires b_in { b < length order.now }
     ensures rising { IsTrue result → a < b }
-    ensures inside { IsTrue result → (k : ℕ) → a < k → k < b → pos 0 <ℤ sided side (orientation points.now (slice_index order.now a) (slice_index order.now b) (slice_index order.now k)) }
+    ensures inside { IsTrue result → (k : ℕ) → a < k → k < b
+        → pos 0 <ℤ sided side (orientation points.now
+        (slice_index order.now a) (slice_index order.now b) (slice_index order.now k)) }
 {
     if b <= a {
         return false;
@@ -238,7 +243,9 @@ fn has_bends(points: &Points, order: &[u32], side: Turn, chain: &[u32]) -> bool
     requires order { IsOrder points.now order.now }
     requires chain { All (λ k. k < length order.now) chain.now }
     requires several { 2 ≤ length chain.now }
-    ensures { IsTrue result → (i : ℕ) → i + 1 + 1 < length chain.now → pos 0 ≤ℤ sided side (orientation points.now (stop order.now chain.now i) (stop order.now chain.now (i + 1)) (stop order.now chain.now (i + 1 + 1))) }
+    ensures { IsTrue result → (i : ℕ) → i + 1 + 1 < length chain.now
+        → pos 0 ≤ℤ sided side (orientation points.now (stop order.now chain.now i)
+        (stop order.now chain.now (i + 1)) (stop order.now chain.now (i + 1 + 1))) }
 {
     for i in 0..chain.len() - 2 {
         if !is_on(

@@ -1,0 +1,4 @@
+pub mod Laws
+mod Steps
+mod Made
+mod Held

@@ -1,0 +1,3 @@
+pub mod Hands
+pub mod Answers
+pub mod Stars

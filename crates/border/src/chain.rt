@@ -73,8 +73,7 @@ pub fn add_half(
     list: &mut Vec<u32>,
 ) -> Result<(), NoMemory>
     requires { IsInOrder points.now forward order.now }
-    ensures { OnOk result (HasWalked points.now forward (at order.now 0) (at order.now (length order.now - 1))
-        list.old.items list.new.items) }
+    ensures { OnOk result (HasWalked points.now forward (at order.now 0) (at order.now (length order.now - 1)) list.old.items list.new.items) }
 {
     let _count = points.len();
     let chain = half(alloc, points, order, forward)?;

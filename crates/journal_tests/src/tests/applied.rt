@@ -2,8 +2,8 @@
 use super::making::{core_of, pair, swept, told};
 use edit::Why;
 use journal_defs::Edit;
-use plane::Pair;
 use replay::{ApplyFault, Core};
+use std::alloc::Global;
 use std::process::Abort;
 use std::test::Fail;
 
@@ -13,8 +13,72 @@ const CENTRED: [(i64, i64); 5] = [(0, 0), (0, 4), (4, 0), (4, 4), (2, 2)];
 
 const SIDED: [(i64, i64); 4] = [(0, 0), (2, 0), (4, 0), (0, 4)];
 
-fn refused(why: Why) -> Result<u64, ApplyFault> {
-    Err(ApplyFault::Illegal { at: 0, why })
+// An edit by the ends of its pairs.
+#[derive(Clone, Copy)]
+enum Planned {
+    Drop(u32, u32),
+    Keep(u32, u32),
+    Flip(u32, u32, u32, u32),
+}
+
+// A commit and its answer.
+#[derive(Clone, Copy)]
+struct Step<'a> {
+    caller: u32,
+    seq: u32,
+    edits: &'a [Planned],
+    answer: Result<u64, ApplyFault>,
+}
+
+fn commit_by(
+    caller: u32,
+    seq: u32,
+    edits: &[Planned],
+    answer: Result<u64, ApplyFault>,
+) -> Step<'_> {
+    Step {
+        caller,
+        seq,
+        edits,
+        answer,
+    }
+}
+
+fn refused(at: u32, why: Why) -> Result<u64, ApplyFault> {
+    Err(ApplyFault::Illegal { at, why })
+}
+
+fn edit_of(rt: &impl Abort, planned: &Planned) -> Edit {
+    match *planned {
+        Planned::Drop(i, j) => Edit::Drop(pair(rt, i, j)),
+        Planned::Keep(i, j) => Edit::Keep(pair(rt, i, j)),
+        Planned::Flip(i, j, k, l) => Edit::Flip {
+            from: pair(rt, i, j),
+            to: pair(rt, k, l),
+        },
+    }
+}
+
+fn edits_of(rt: &impl Abort, alloc: Global, planned: &[Planned]) -> Result<Vec<Edit>, Fail> {
+    let mut edits = Vec::new(alloc);
+    for one in planned {
+        edits.push(edit_of(rt, one))?;
+    }
+    Ok(edits)
+}
+
+fn expect_answers(
+    rt: &impl Abort,
+    alloc: Global,
+    core: &mut Core,
+    steps: &[Step<'_>],
+) -> Result<(), Fail> {
+    for (k, step) in steps.iter().enumerate() {
+        let edits = edits_of(rt, alloc, step.edits)?;
+        let answer = told(core, step.caller, step.seq, edits.as_slice())?;
+        assert_eq!(rt; answer, step.answer, "step {k}");
+    }
+    Ok(())
 }
 
 fn expect_kept(rt: &impl Abort, core: &Core, wanted: &[(u32, u32)]) -> Result<(), Fail> {
@@ -28,34 +92,20 @@ fn expect_kept(rt: &impl Abort, core: &Core, wanted: &[(u32, u32)]) -> Result<()
 
 #[test]
 fn commits_of_a_square(rt: HostRuntime) -> Result<(), Fail> {
+    use Planned::{Drop, Flip, Keep};
     let mut core = core_of(&rt, rt.alloc(), &SQUARE)?;
-    let (across, other) = (pair(&rt, 1, 2), pair(&rt, 0, 3));
-    let flip = |to: Pair| Edit::Flip { from: across, to };
-    let drop = Edit::Drop(across);
-    assert_eq!(&rt; core.start().len(), 5);
-    assert_eq!(&rt;
-        told(&mut core, 0, 2, &[drop])?,
-        Err(ApplyFault::WrongSeq { wanted: 1 })
-    );
-    assert_eq!(&rt;
-        told(&mut core, 0, 1, &[Edit::Drop(other)])?,
-        refused(Why::NotThere)
-    );
-    assert_eq!(&rt;
-        told(&mut core, 0, 1, &[Edit::Keep(across)])?,
-        refused(Why::NotSpare)
-    );
-    assert_eq!(&rt; told(&mut core, 0, 1, &[drop])?, Ok(1));
-    assert_eq!(&rt; told(&mut core, 0, 2, &[drop])?, refused(Why::NotKept));
-    assert_eq!(&rt;
-        told(&mut core, 0, 2, &[flip(pair(&rt, 0, 1))])?,
-        refused(Why::AlreadyThere)
-    );
+    let steps = [
+        commit_by(0, 2, &[Drop(1, 2)], Err(ApplyFault::WrongSeq { wanted: 1 })),
+        commit_by(0, 1, &[Drop(0, 3)], refused(0, Why::NotThere)),
+        commit_by(0, 1, &[Keep(1, 2)], refused(0, Why::NotSpare)),
+        commit_by(0, 1, &[Drop(1, 2)], Ok(1)),
+        commit_by(0, 2, &[Drop(1, 2)], refused(0, Why::NotKept)),
+        commit_by(0, 2, &[Flip(1, 2, 0, 1)], refused(0, Why::AlreadyThere)),
+    ];
+    expect_answers(&rt, rt.alloc(), &mut core, &steps)?;
     expect_kept(&rt, &core, &[(0, 1), (0, 2), (1, 3), (2, 3)])?;
-    assert_eq!(&rt;
-        told(&mut core, 16, 1, &[flip(other), Edit::Keep(other)])?,
-        Ok(2)
-    );
+    let flipped = [commit_by(16, 1, &[Flip(1, 2, 0, 3), Keep(0, 3)], Ok(2))];
+    expect_answers(&rt, rt.alloc(), &mut core, &flipped)?;
     expect_kept(&rt, &core, &[(0, 1), (0, 2), (0, 3), (1, 3), (2, 3)])?;
     assert_eq!(&rt; (core.count(0), core.count(16), core.count(17)), (1, 1, 0));
     assert_eq!(&rt; core.start().len(), 5);
@@ -64,100 +114,71 @@ fn commits_of_a_square(rt: HostRuntime) -> Result<(), Fail> {
 
 #[test]
 fn edits_before_a_refusal_are_undone(rt: HostRuntime) -> Result<(), Fail> {
+    use Planned::{Drop, Flip, Keep};
     let mut core = core_of(&rt, rt.alloc(), &SQUARE)?;
-    let (across, other) = (pair(&rt, 1, 2), pair(&rt, 0, 3));
-    let edits = [
-        Edit::Drop(across),
-        Edit::Flip {
-            from: across,
-            to: other,
-        },
-        Edit::Keep(other),
-        Edit::Drop(pair(&rt, 0, 1)),
-    ];
-    let illegal = ApplyFault::Illegal {
-        at: 3,
-        why: Why::Border,
-    };
-    assert_eq!(&rt; told(&mut core, 3, 1, &edits)?, Err(illegal));
+    let edits = [Drop(1, 2), Flip(1, 2, 0, 3), Keep(0, 3), Drop(0, 1)];
+    let undone = [commit_by(3, 1, &edits, refused(3, Why::Border))];
+    expect_answers(&rt, rt.alloc(), &mut core, &undone)?;
     expect_kept(&rt, &core, &[(0, 1), (0, 2), (1, 2), (1, 3), (2, 3)])?;
     assert_eq!(&rt; (core.journal().len(), core.count(3)), (0, 0));
-    assert_eq!(&rt; told(&mut core, 3, 1, &edits[..3])?, Ok(1));
-    Ok(())
+    let made = [commit_by(3, 1, &edits[..3], Ok(1))];
+    expect_answers(&rt, rt.alloc(), &mut core, &made)
 }
 
 #[test]
-fn a_need_opens_at_the_centre(rt: HostRuntime) -> Result<(), Fail> {
+fn answers_at_a_centre_and_inside_a_side(rt: HostRuntime) -> Result<(), Fail> {
+    use Planned::{Drop, Flip};
     let mut core = core_of(&rt, rt.alloc(), &CENTRED)?;
-    let drop = |i: u32| Edit::Drop(pair(&rt, i, 4));
-    let flip = |to: Pair| Edit::Flip {
-        from: pair(&rt, 0, 4),
-        to,
-    };
-    assert_eq!(&rt; told(&mut core, 0, 1, &[drop(0)])?, Ok(1));
-    assert_eq!(&rt; told(&mut core, 0, 2, &[drop(1)])?, refused(Why::Opens(4)));
-    assert_eq!(&rt;
-        told(&mut core, 0, 2, &[flip(pair(&rt, 0, 3))])?,
-        refused(Why::NotApex(0))
-    );
-    assert_eq!(&rt;
-        told(&mut core, 0, 2, &[flip(pair(&rt, 1, 2))])?,
-        refused(Why::Bent(4))
-    );
-    assert_eq!(&rt; told(&mut core, 0, 2, &[drop(3)])?, Ok(2));
-    assert_eq!(&rt; told(&mut core, 0, 3, &[drop(2)])?, refused(Why::Opens(4)));
-    Ok(())
-}
-
-#[test]
-fn a_corner_inside_a_side(rt: HostRuntime) -> Result<(), Fail> {
+    let steps = [
+        commit_by(0, 1, &[Drop(0, 4)], Ok(1)),
+        commit_by(0, 2, &[Drop(1, 4)], refused(0, Why::Opens(4))),
+        commit_by(0, 2, &[Flip(0, 4, 0, 3)], refused(0, Why::NotApex(0))),
+        commit_by(0, 2, &[Flip(0, 4, 1, 2)], refused(0, Why::Bent(4))),
+        commit_by(0, 2, &[Drop(3, 4)], Ok(2)),
+        commit_by(0, 3, &[Drop(2, 4)], refused(0, Why::Opens(4))),
+    ];
+    expect_answers(&rt, rt.alloc(), &mut core, &steps)?;
     let mut core = core_of(&rt, rt.alloc(), &SIDED)?;
-    let from = pair(&rt, 1, 3);
-    assert_eq!(&rt; told(&mut core, 0, 1, &[Edit::Drop(from)])?, Ok(1));
-    let flip = Edit::Flip {
-        from,
-        to: pair(&rt, 0, 2),
-    };
-    assert_eq!(&rt; told(&mut core, 0, 2, &[flip])?, refused(Why::Bent(1)));
-    Ok(())
+    let steps = [
+        commit_by(0, 1, &[Drop(1, 3)], Ok(1)),
+        commit_by(0, 2, &[Flip(1, 3, 0, 2)], refused(0, Why::Bent(1))),
+    ];
+    expect_answers(&rt, rt.alloc(), &mut core, &steps)
 }
 
+// A sweep drops what can go in ascending order; a core that is taken apart and put together goes on from there.
 #[test]
-fn a_sweep_in_ascending_order(rt: HostRuntime) -> Result<(), Fail> {
+fn swept_and_put_together(rt: HostRuntime) -> Result<(), Fail> {
     let mut core = core_of(&rt, rt.alloc(), &CENTRED)?;
+    core.room(2)?;
     assert_eq!(&rt; swept(&mut core)?, 2);
-    let journal = core.journal();
-    assert!(&rt; journal.len() == 2);
-    let (first, second) = (&journal[0], &journal[1]);
-    assert_eq!(&rt;
-        (first.caller, first.seq, second.caller, second.seq),
-        (0, 1, 0, 2)
-    );
-    assert_eq!(&rt; first.edits.as_slice()[0], Edit::Drop(pair(&rt, 0, 4)));
-    assert_eq!(&rt; second.edits.as_slice()[0], Edit::Drop(pair(&rt, 3, 4)));
+    let mut dropped = Vec::new(rt.alloc());
+    for commit in core.journal() {
+        for edit in commit.edits.as_slice() {
+            dropped.push((commit.caller, commit.seq, *edit))?;
+        }
+    }
+    let wanted = [
+        (0, 1, Edit::Drop(pair(&rt, 0, 4))),
+        (0, 2, Edit::Drop(pair(&rt, 3, 4))),
+    ];
+    assert!(&rt; dropped.as_slice() == wanted.as_slice());
     expect_kept(
         &rt,
         &core,
         &[(0, 1), (0, 2), (1, 3), (1, 4), (2, 3), (2, 4)],
     )?;
     assert_eq!(&rt; swept(&mut core)?, 0);
-    Ok(())
-}
-
-#[test]
-fn taken_apart_and_put_together(rt: HostRuntime) -> Result<(), Fail> {
-    let mut core = core_of(&rt, rt.alloc(), &CENTRED)?;
-    core.room(2)?;
-    assert_eq!(&rt; swept(&mut core)?, 2);
     let (points, start, journal, all) = core.into_parts();
     let mut core = Core::from_parts(points, start, journal, all);
     assert_eq!(&rt;
         (core.count(0), core.journal().len(), core.start().len()),
         (2, 2, 8)
     );
-    assert_eq!(&rt;
-        told(&mut core, 1, 1, &[Edit::Keep(pair(&rt, 3, 4))])?,
-        Ok(3)
-    );
-    Ok(())
+    expect_answers(
+        &rt,
+        rt.alloc(),
+        &mut core,
+        &[commit_by(1, 1, &[Planned::Keep(3, 4)], Ok(3))],
+    )
 }

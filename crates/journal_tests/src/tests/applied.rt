@@ -97,7 +97,9 @@ fn commits_of_a_square(rt: HostRuntime) -> Result<(), Fail> {
     let steps = [
         commit_by(0, 2, &[Drop(1, 2)], Err(ApplyFault::WrongSeq { wanted: 1 })),
         commit_by(0, 1, &[Drop(0, 3)], refused(0, Why::NotThere)),
+        commit_by(0, 1, &[Drop(0, 1)], refused(0, Why::Border)),
         commit_by(0, 1, &[Keep(1, 2)], refused(0, Why::NotSpare)),
+        commit_by(0, 1, &[Flip(1, 2, 0, 3)], refused(0, Why::NotSpare)),
         commit_by(0, 1, &[Drop(1, 2)], Ok(1)),
         commit_by(0, 2, &[Drop(1, 2)], refused(0, Why::NotKept)),
         commit_by(0, 2, &[Flip(1, 2, 0, 1)], refused(0, Why::AlreadyThere)),

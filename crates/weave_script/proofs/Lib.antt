@@ -1,0 +1,7 @@
+mod EditLists
+mod StepLists
+mod Within
+mod Parts
+mod Played
+mod Read
+pub mod Laws

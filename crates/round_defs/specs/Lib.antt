@@ -1,0 +1,4 @@
+pub mod Candidates
+pub mod Rounds
+pub mod Handed
+pub mod Grown

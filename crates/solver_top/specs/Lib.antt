@@ -7,6 +7,7 @@ pub mod Starting
 pub mod Solving
 pub mod Generating
 pub mod Checking
+pub mod Weaving
 pub mod Answers
 pub mod Reading
 pub mod WordFaults

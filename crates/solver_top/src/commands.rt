@@ -6,3 +6,4 @@ pub mod judging;
 pub mod refusing;
 pub mod solving;
 pub mod starting;
+pub mod weaving;

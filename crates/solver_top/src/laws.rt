@@ -8,6 +8,7 @@ ghost use Rattle.solver_top.specs.Words.{IsLineOf};
 ghost use Rattle.solver_top.specs.Answers.{HasInput};
 ghost use Rattle.solver_top.specs.Judging.{IsRefused};
 ghost use Rattle.solver_top.specs.Starting.{IsRefusedInstance};
+ghost use Rattle.solver_top.specs.Weaving.{IsRefusedScript};
 
 use crate::words::Command;
 use plane::Points;
@@ -17,6 +18,7 @@ pub fn read_or_refused()
     ensures judge { (input text : List ℕ) → HasInput Command.Judge input → ¬ IsRefused input text }
     ensures start { (input text : List ℕ) → HasInput Command.Start input → ¬ IsRefusedInstance input text }
     ensures check { (input text : List ℕ) → HasInput Command.Check input → ¬ IsRefusedReport input text }
+    ensures weave { (input text : List ℕ) → HasInput Command.Weave input → ¬ IsRefusedScript input text }
 {}
 
 /// Words are the line of one command alone.

@@ -1,16 +1,16 @@
 // What `solve` and `gen-solve` write. The answers were worked out by hand.
 use super::{instance, ran, words_of};
-use crate::{Status, run};
 use mcp_outside::{MemorySink, MemorySource, OpenGate};
+use solver_top::{Status, run};
 use std::alloc::Global;
 use std::process::Abort;
 use std::test::Fail;
 use std::thread::Threads;
 
-const SQUARE: &str =
+pub const SQUARE: &str =
     r#"{"name":"sq","points":[{"x":0,"y":0},{"x":0,"y":4},{"x":4,"y":0},{"x":4,"y":4}]}"#;
 
-const REPORT_OF_SQUARE: &str =
+pub const REPORT_OF_SQUARE: &str =
     r#"{"name":"sq","points":[{"i":0,"x":0,"y":0},{"i":1,"x":0,"y":4},{"i":2,"x":4,"y":0},{"i":3,"x":4,"y":4}]}
 {"edges":[{"i":0,"j":1},{"i":0,"j":2},{"i":1,"j":3},{"i":2,"j":3}],"instance_name":"sq","type":"Solution"}
 {"q":2,"rows":[],"value":4}
@@ -27,7 +27,7 @@ fn line_of(text: &str, k: usize) -> &str {
 }
 
 // What the program writes, as text.
-fn told<R: Threads + Sync + Abort>(
+fn solved<R: Threads + Sync + Abort>(
     rt: &R,
     alloc: Global,
     line: &str,
@@ -42,15 +42,15 @@ fn told<R: Threads + Sync + Abort>(
 // Whole reports of a square, with no workers and with idle ones, and the square with its centre.
 #[test]
 fn reports_a_square(rt: HostRuntime) -> Result<(), Fail> {
-    let report = told(&rt, rt.alloc(), "solve 0 0 0 1", SQUARE)?;
+    let report = solved(&rt, rt.alloc(), "solve 0 0 0 1", SQUARE)?;
     assert_eq!(rt; report.as_str(), REPORT_OF_SQUARE);
-    let report = told(&rt, rt.alloc(), "solve 3 2 0 1", SQUARE)?;
+    let report = solved(&rt, rt.alloc(), "solve 3 2 0 1", SQUARE)?;
     assert_eq!(rt;
         line_of(&report, 4),
         r#"{"bound":4,"commits":[1,0,0,0],"cost":4,"edges":4,"gap":0,"optimal":true,"version":2}"#
     );
     let input = format!(in rt.alloc(); "{{{CENTRED}")?;
-    let report = told(&rt, rt.alloc(), "solve 0 0 0 1", &input)?;
+    let report = solved(&rt, rt.alloc(), "solve 0 0 0 1", &input)?;
     let lines = [
         r#"{"edges":[{"i":0,"j":1},{"i":0,"j":2},{"i":1,"j":3},{"i":1,"j":4},{"i":2,"j":3},{"i":2,"j":4}],"instance_name":"sqc","type":"Solution"}"#,
         r#"{"q":2,"rows":[["h",4,0,2],["h",4,3,2]],"value":6}"#,
@@ -125,7 +125,7 @@ fn counts_costs(rt: HostRuntime) -> Result<(), Fail> {
     ];
     for (costs, certificate, summary) in cases {
         let input = format!(in rt.alloc(); "{{\"costs\":{costs},{CENTRED}")?;
-        let report = told(&rt, rt.alloc(), "solve 0 0 0 1", &input)?;
+        let report = solved(&rt, rt.alloc(), "solve 0 0 0 1", &input)?;
         assert_eq!(rt; line_of(&report, 2), certificate, "{costs}");
         assert_eq!(rt; line_of(&report, 4), summary, "{costs}");
     }

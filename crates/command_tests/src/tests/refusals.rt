@@ -1,6 +1,6 @@
 // Each refusal once through `run`, and each limit with its greatest input and one more.
 use super::{SQUARE, ran};
-use crate::Status;
+use solver_top::Status;
 use std::alloc::Global;
 use std::test::Fail;
 

@@ -1,8 +1,10 @@
+mod checking;
 mod refusals;
 mod solving;
+mod weaving;
 
-use crate::{Status, run};
 use mcp_outside::{MemorySink, MemorySource, OpenGate};
+use solver_top::{Status, run};
 use std::alloc::Global;
 use std::test::Fail;
 use std::thread::Threads;
@@ -72,6 +74,17 @@ fn ran<R: Threads + Sync>(
         &OpenGate,
     );
     Ok((status, Vec::from_slice(alloc, sink.written())?))
+}
+
+// The same for an input that is text, with what is written as text.
+fn told<R: Threads + Sync>(
+    rt: &R,
+    alloc: Global,
+    line: &str,
+    input: &str,
+) -> Result<(Status, String), Fail> {
+    let (status, written) = ran(rt, alloc, line, Vec::from_slice(alloc, input.as_bytes())?)?;
+    Ok((status, String::from_utf8(written)?))
 }
 
 // An input of a case: a bundle by its front and its edges, a text, or so many spaces.
@@ -198,6 +211,12 @@ fn reads_its_words(rt: HostRuntime) -> Result<(), Fail> {
         ("solv", Status::Usage, "usage 0\n"),
         ("judge judge", Status::Usage, "usage 1\n"),
         ("start start", Status::Usage, "usage 1\n"),
+        ("check check", Status::Usage, "usage 1\n"),
+        ("check 0", Status::Usage, "usage 1\n"),
+        ("part", Status::Usage, "usage 1\n"),
+        ("part edges", Status::Usage, "usage 1\n"),
+        ("part solution 2", Status::Usage, "usage 2\n"),
+        ("weave weave", Status::Usage, "usage 1\n"),
         ("gen", Status::Usage, "usage 1\n"),
         ("gen heap 5 1", Status::Usage, "usage 1\n"),
         ("gen scatter 2 1", Status::Usage, "usage 2\n"),

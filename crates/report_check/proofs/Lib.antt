@@ -3,4 +3,4 @@ pub mod Journals
 pub mod Sorted
 pub mod Sweeps
 pub mod Histories
-pub mod Valid
+pub mod Laws

@@ -7,4 +7,5 @@ pub mod Written
 pub mod LineFaults
 pub mod Headline
 pub mod Reports
+pub mod Readable
 pub mod NoFirstWord

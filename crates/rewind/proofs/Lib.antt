@@ -1,0 +1,3 @@
+pub mod laws
+mod Keys
+mod Marked

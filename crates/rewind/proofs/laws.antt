@@ -1,0 +1,3 @@
+-- What proofs of other crates may cite of this crate.
+pub mod Earlier
+pub mod Undoing

@@ -4,6 +4,7 @@
 
 mod border_cost;
 mod checking;
+mod clear_tests;
 mod overload;
 mod shape;
 

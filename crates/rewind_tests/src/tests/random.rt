@@ -1,4 +1,5 @@
-// Random commits and undos, legal and not: what is undone, and the kept pairs of every moment, are the plain program's.
+// Random commits and undos, legal and not: what is undone, and the kept pairs of every moment, are the plain
+// program's.
 use super::making::{GRID, committed, core_of, kept_at, pair, undone};
 use super::plain;
 use journal_defs::Edit;

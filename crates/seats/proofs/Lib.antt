@@ -1,0 +1,4 @@
+mod Settled
+mod Tried
+mod Entry
+pub mod Laws

@@ -1,0 +1,5 @@
+pub mod Ground
+pub mod Cells
+pub mod Seats
+pub mod Claimed
+pub mod Resting

@@ -70,12 +70,16 @@ pub fn committed(
     if !are_within(core.points().len(), edits.as_slice()) {
         return Err(Fail::from("an end beyond the points"));
     }
-    let seq = core.count(caller).saturating_add(1);
+    let seq = core.count(caller) + 1;
     Ok(core.apply(Commit { caller, seq, edits }))
 }
 
 /// What an undo is answered.
-pub fn undone(core: &mut Core, caller: u32, number: u64) -> Result<Result<u64, UndoFault>, Fail> {
+pub fn undone(
+    core: &mut Core,
+    caller: u32,
+    number: u64,
+) -> Result<Result<u64, UndoFault>, Fail> {
     if caller > MOST_CALLER || core.journal().len() >= MOST_COMMITS {
         return Err(Fail::from("no commit for this core"));
     }

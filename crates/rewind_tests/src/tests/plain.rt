@@ -1,5 +1,4 @@
-// Undos as a plain slow program: legality is that of all pairs and all points, and each moment is replayed from the
-// start.
+// Undos as a plain slow program: legality is that of all pairs and all points, and each moment is replayed from the start.
 use journal_defs::{Edit, Lists, first_illegal, is_within, replay};
 use plane::{Pair, Points};
 use replay::Core;
@@ -40,8 +39,8 @@ fn refusal_in(
     Ok(first_illegal(alloc, points, state, edits)?)
 }
 
-/// What an undo of the commit at an index is to answer: the position of the first edit that isn't legal in its turn,
-/// or none.
+/// What an undo of the commit at an index is to answer: the position of the first edit that isn't legal in its turn, or
+/// none.
 pub fn refused_at(alloc: Global, core: &Core, index: usize) -> Result<Option<u32>, Fail> {
     let Some(commit) = core.journal().get(index) else {
         return Err(Fail::from("no such commit"));

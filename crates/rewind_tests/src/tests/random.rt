@@ -1,5 +1,4 @@
-// Random commits and undos, legal and not: what is undone, and the kept pairs of every moment, are the plain
-// program's.
+// Random commits and undos, legal and not: what is undone, and the kept pairs of every moment, are the plain program's.
 use super::making::{GRID, committed, core_of, kept_at, pair, undone};
 use super::plain;
 use journal_defs::Edit;
@@ -53,17 +52,6 @@ fn any_edit(seed: u64) -> Edit {
     }
 }
 
-// A commit of an edit or two; whether it was taken.
-fn commit_any(core: &mut Core, seed: u64) -> Result<bool, Fail> {
-    let edits = [any_edit(seed), any_edit(next(next(seed)))];
-    let answer = if below(next(seed), 2) == 0 {
-        committed(core, 1, &edits[..1])?
-    } else {
-        committed(core, 1, &edits)?
-    };
-    Ok(answer.is_ok())
-}
-
 // An undo of any commit, compared; whether it was made.
 fn compare_undo(rt: &impl Abort, alloc: Global, core: &mut Core, seed: u64) -> Result<bool, Fail> {
     let index = below(seed, core.journal().len());
@@ -92,7 +80,9 @@ fn compare_run(rt: &impl Abort, alloc: Global, seed: u64) -> Result<(u32, u32), 
     let mut seed = seed;
     for _ in 0..150 {
         seed = next(next(next(seed)));
-        let _is_taken = commit_any(&mut core, seed)?;
+        let edits = [any_edit(seed), any_edit(next(next(seed)))];
+        let some = below(next(seed), 2);
+        let _answer = committed(&mut core, 1, if some == 0 { &edits[..1] } else { &edits[..] })?;
         if core.journal().len() > 0 && below(next(next(seed)), 3) == 0 {
             if compare_undo(rt, alloc, &mut core, next(next(next(seed))))? {
                 made = made.saturating_add(1);

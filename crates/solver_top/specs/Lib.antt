@@ -9,6 +9,5 @@ pub mod Generating
 pub mod Checking
 pub mod Weaving
 pub mod Answers
-pub mod Readable
 pub mod Reading
 pub mod WordFaults

@@ -1,27 +1,13 @@
 -- For private clauses.
 -- Pairs with more than is allowed.
-use Rattle.std.specs.Prelude.{◌≡◌, ℕ, ◌<◌, ◌≤◌, List, length, Option, Some, None, ℤ}
+use Rattle.std.specs.Prelude.{◌≡◌, ℕ, ◌<◌, List, Option, Some, None, ℤ}
 use Rattle.plane.specs.declared.coordinates.Point.{Point}
-use Rattle.plane.specs.declared.segment.Pair.{Pair}
 use Rattle.plane.specs.First.{IsFirstPair}
 use Rattle.cost_defs.specs.Costs.{Costed}
 use Rattle.price_defs.specs.declared.row.Row.{Row}
-use Rattle.price_defs.specs.declared.row.TheConstants.{MOST_ROWS}
-use Rattle.price_defs.specs.Limits.{AreLight}
-use Rattle.price_defs.specs.Loads.{takes, load}
+use Rattle.price_defs.specs.Loads.{load}
 use Rattle.price_defs.specs.Faults.{IsOver}
-use Rattle.price_defs.specs.Rows.{AreRight}
-use Rattle.point_rows.specs.Takers.{taken}
-use Rattle.given_sums.specs.Sums.{Strip}
 use Rattle.cert_check.specs.declared.overload.Loaded.{Loaded}
-
--- the sums of a strip and what is taken off are those of right and light rows for these points
-pub record AreKept (S : List Point) (sums : Strip) (T : List (Pair × ℕ)) : Type 0 where
-  pub points : S ≡ sums.points
-  pub right : AreRight S sums.rows
-  pub few : length sums.rows ≤ MOST_ROWS
-  pub light : AreLight sums.rows
-  pub takers : (i j : ℕ) → taken T i j ≡ takes sums.rows i j
 
 -- the load of i-j where it is more than is allowed, or none
 abbrev pub IsExcess : List Point → List Costed → ℕ → List Row → (i j : ℕ) → Option ℤ → Type 0
@@ -34,12 +20,6 @@ IsFirstOverFrom S D q rows i n None = (j : ℕ) → i < j → j < n → ¬ IsOve
 IsFirstOverFrom S D q rows i n (Some x) =
     (x.pair.lo ≡ i) × (x.pair.hi < n) × IsOver S D q rows x.pair.lo x.pair.hi × (x.load ≡ load S rows x.pair.lo x.pair.hi)
     × ((j : ℕ) → i < j → j < x.pair.hi → ¬ IsOver S D q rows i j)
-
--- the first pair of a point from m on and below e and a greater one below n, or none
-abbrev pub IsFirstOverOf : List Point → List Costed → ℕ → List Row → (m e n : ℕ) → Option Loaded → Type 0
-IsFirstOverOf S D q rows m e n None = (i j : ℕ) → m ≤ i → i < e → i < j → j < n → ¬ IsOver S D q rows i j
-IsFirstOverOf S D q rows m e n (Some x) =
-    IsFirstOverFrom S D q rows x.pair.lo n (Some x) × ((i j : ℕ) → m ≤ i → i < x.pair.lo → i < j → j < n → ¬ IsOver S D q rows i j)
 
 -- the first pair below n, or none
 abbrev pub IsFirstOver : List Point → List Costed → ℕ → List Row → ℕ → Option Loaded → Type 0

@@ -15,7 +15,8 @@ use crate::shape::first_bad;
 use cost_defs::Costs;
 use mcp_outside::NoMemory;
 use plane::{Pair, Points};
-use price_defs::{Certificate, MOST_DIVISOR, MOST_ROWS, value_of};
+use point_rows::PointRows;
+use price_defs::{Certificate, MOST_DIVISOR, MOST_ROWS, Row, value_of};
 use std::alloc::Global;
 
 /// Why a certificate isn't valid, or wasn't checked. The kinds are tried in this order.
@@ -33,6 +34,17 @@ pub enum CertFault {
     NoMemory,
 }
 
+// The rows by the points at which they stand.
+fn kept_rows(alloc: Global, points: &Points, rows: &[Row]) -> Result<PointRows, NoMemory>
+    requires right { AreRight points.now rows.now }
+    requires few { length rows.now ≤ MOST_ROWS }
+    requires light { AreLight rows.now }
+    ensures points { IfOk result (λ a. a.points ≡ points.now) }
+    ensures rows { IfOk result (λ a. a.rows ≡ rows.now) }
+{
+    PointRows::make(alloc, points, rows.to_vec(alloc)?)
+}
+
 // Ok where no pair has too much. The rows are right.
 fn check_loads(
     alloc: Global,
@@ -47,13 +59,15 @@ fn check_loads(
     requires right { AreRight points.now certificate.now.rows }
     ensures { IsRowAnswer points.now costs.now certificate.now.q certificate.now.rows result }
 {
-    match first_over(alloc, points, costs, certificate.q, &certificate.rows) {
+    match kept_rows(alloc, points, certificate.rows.as_slice()) {
         Err(_) => Err(CertFault::NoMemory),
-        Ok(Some(over)) => Err(CertFault::Overload {
-            pair: over.pair,
-            load: over.load,
-        }),
-        Ok(None) => Ok(()),
+        Ok(kept) => match first_over(points, costs, certificate.q, &kept) {
+            Some(over) => Err(CertFault::Overload {
+                pair: over.pair,
+                load: over.load,
+            }),
+            None => Ok(()),
+        },
     }
 }
 

@@ -4,7 +4,6 @@
 
 mod border_cost;
 mod checking;
-mod clear_tests;
 mod overload;
 mod shape;
 

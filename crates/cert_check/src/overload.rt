@@ -1,18 +1,10 @@
-// The first pair with more than is allowed. Loads are added up a strip of pairs at a time, in the order of the pairs, so that
-// no table of all pairs is kept.
-ghost use Rattle.std.specs.Prelude.{◌≡◌, ◌+◌, ◌<◌, ◌≤◌, length, IfOk};
-ghost use Rattle.price_defs.specs.Limits.{AreLight};
-ghost use Rattle.price_defs.specs.Rows.{AreRight};
-ghost use Rattle.cert_check.specs.Overloads.{AreKept, IsExcess, IsFirstOverFrom, IsFirstOverOf, IsFirstOver};
+// The first pair with more than is allowed.
+ghost use Rattle.std.specs.Prelude.{◌≡◌, ◌<◌, ◌≤◌, length};
+ghost use Rattle.cert_check.specs.Overloads.{IsExcess, IsFirstOverFrom, IsFirstOver};
 
-use crate::clear_tests::ClearTests;
 use cost_defs::Costs;
-use given_sums::{GivenSums, STRIP};
-use mcp_outside::NoMemory;
 use plane::{Pair, Points};
-use point_rows::Takers;
-use price_defs::{MOST_ROWS, RowList};
-use std::alloc::Global;
+use point_rows::PointRows;
 
 /// A pair with its load.
 #[derive(Clone, Copy, Debug, PartialEq, Eq)]
@@ -21,125 +13,62 @@ pub struct Loaded {
     pub load: i64,
 }
 
-// The load of a pair of the strip, where it is clear and has more than is allowed. Whether it is clear is asked last.
-fn excess(
-    alloc: Global,
-    points: &Points,
-    costs: &Costs,
-    q: u64,
-    sums: &GivenSums,
-    takers: &Takers,
-    clear: &mut ClearTests,
-    e: Pair,
-) -> Result<Option<i64>, NoMemory>
-    requires kept { AreKept points.now sums.now takers.now }
-    requires clear { points.now ≡ clear.old }
+// The load of a pair, where it is clear and has more than is allowed. Whether it is clear is asked last.
+fn excess(points: &Points, costs: &Costs, q: u64, kept: &PointRows, e: Pair) -> Option<i64>
+    requires points { points.now ≡ kept.now.points }
     requires divisor { q ≤ 1000000 }
-    requires from { sums.now.first ≤ e.lo }
-    requires within { e.lo < sums.now.first + STRIP }
     requires end { e.hi < length points.now }
-    ensures excess { IfOk result (IsExcess points.now costs.now q sums.now.rows e.lo e.hi) }
-    ensures points { clear.new ≡ clear.old }
+    ensures { IsExcess points.now costs.now q kept.now.rows e.lo e.hi result }
 {
+    let _rows = kept.rows();
     let allowed = q * u64::from(costs.of(e));
-    let given = sums.of(e);
+    let given = kept.gives(points, e.lo(), e.hi());
     if given <= allowed {
-        return Ok(None);
+        return None;
     }
-    let taken = takers.of(e);
+    let taken = kept.takes(e);
     if given <= allowed + taken {
-        return Ok(None);
+        return None;
     }
-    if !clear.has(alloc, points, e)? {
-        return Ok(None);
+    if !points.is_clear(e) {
+        return None;
     }
-    Ok(Some(given as i64 - taken as i64))
+    Some(given as i64 - taken as i64)
 }
 
-// The first pair whose lesser end is i, a point of the strip.
+// The first pair whose lesser end is i.
 fn first_over_from(
-    alloc: Global,
     points: &Points,
     costs: &Costs,
     q: u64,
-    sums: &GivenSums,
-    takers: &Takers,
-    clear: &mut ClearTests,
+    kept: &PointRows,
     i: u32,
-) -> Result<Option<Loaded>, NoMemory>
-    requires kept { AreKept points.now sums.now takers.now }
-    requires clear { points.now ≡ clear.old }
+) -> Option<Loaded>
+    requires points { points.now ≡ kept.now.points }
     requires divisor { q ≤ 1000000 }
-    requires from { sums.now.first ≤ i }
-    requires within { i < sums.now.first + STRIP }
-    requires end { i < length points.now }
-    ensures first { IfOk result (IsFirstOverFrom points.now costs.now q sums.now.rows i (length points.now)) }
-    ensures points { clear.new ≡ clear.old }
+    requires within { i < length points.now }
+    ensures { IsFirstOverFrom points.now costs.now q kept.now.rows i (length points.now) result }
 {
     let count = points.len();
     for j in i + 1..count {
         let pair = Pair::of(i, j);
-        let found = excess(alloc, points, costs, q, sums, takers, clear, pair)?;
-        if let Some(load) = found {
-            return Ok(Some(Loaded { pair, load }));
+        if let Some(load) = excess(points, costs, q, kept, pair) {
+            return Some(Loaded { pair, load });
         }
     }
-    Ok(None)
-}
-
-// The first pair of the strip.
-fn first_over_of(
-    alloc: Global,
-    points: &Points,
-    costs: &Costs,
-    q: u64,
-    sums: &GivenSums,
-    takers: &Takers,
-    clear: &mut ClearTests,
-    first: u32,
-) -> Result<Option<Loaded>, NoMemory>
-    requires kept { AreKept points.now sums.now takers.now }
-    requires clear { points.now ≡ clear.old }
-    requires divisor { q ≤ 1000000 }
-    requires first { sums.now.first ≡ first }
-    requires within { first ≤ length points.now }
-    ensures first { IfOk result (IsFirstOverOf points.now costs.now q sums.now.rows first (first + STRIP) (length points.now)) }
-    ensures points { clear.new ≡ clear.old }
-{
-    let end = points.len().min(first + STRIP);
-    for i in first..end {
-        let found = first_over_from(alloc, points, costs, q, sums, takers, clear, i)?;
-        if let Some(over) = found {
-            return Ok(Some(over));
-        }
-    }
-    Ok(None)
+    None
 }
 
 /// The least clear pair that has more than is allowed, with its load, or none.
-pub fn first_over(
-    alloc: Global,
-    points: &Points,
-    costs: &Costs,
-    q: u64,
-    rows: &RowList,
-) -> Result<Option<Loaded>, NoMemory>
-    requires right { AreRight points.now rows.now }
-    requires few { length rows.now ≤ MOST_ROWS }
-    requires light { AreLight rows.now }
+pub fn first_over(points: &Points, costs: &Costs, q: u64, kept: &PointRows) -> Option<Loaded>
+    requires points { points.now ≡ kept.now.points }
     requires divisor { q ≤ 1000000 }
-    ensures { IfOk result (IsFirstOver points.now costs.now q rows.now (length points.now)) }
+    ensures { IsFirstOver points.now costs.now q kept.now.rows (length points.now) result }
 {
-    let _listed = costs.list();
-    let takers = Takers::make(alloc, rows.as_slice())?;
-    let mut clear = ClearTests::make(points);
-    for k in 0..points.len() / STRIP + 1 {
-        let first = k * STRIP;
-        let sums = GivenSums::make(alloc, points, rows, first)?;
-        let found = first_over_of(alloc, points, costs, q, &sums, &takers, &mut clear, first)?;
-        if let Some(over) = found {
-            return Ok(Some(over));
+    for i in 0..points.len() {
+        if let Some(over) = first_over_from(points, costs, q, kept, i) {
+            return Some(over);
         }
     }
-    Ok(None)
+    None
 }

@@ -3,4 +3,4 @@ pub mod Journals
 pub mod Sorted
 pub mod Sweeps
 pub mod Histories
-pub mod Laws
+pub mod Valid

@@ -58,8 +58,6 @@ run_report I E search run s copy r h name summary is =
       solved = record { name = name; solved = h.solved E; value = h.bound; summary = summary };
       best = h.best;
       plain = record { start = h.start; journal = h.journal };
-      few = h.few;
-      fewer = h.fewer;
     })
 
 pub run_version : (I : Instance) (E workers rounds seed : ℕ) (r : Report) → IsRunReport I E workers rounds seed r → HasVersion r.summary

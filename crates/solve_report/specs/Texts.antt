@@ -1,5 +1,5 @@
 -- What `solve` writes of an instance, and `gen-solve` of one that it makes. (This project's own.)
-use Rattle.std.specs.Prelude.{◌≡◌, ℕ, ◌≤◌, List, [], ◌++◌, length, codes}
+use Rattle.std.specs.Prelude.{◌≡◌, ℕ, List, [], ◌++◌, codes}
 use Rattle.generator.specs.declared.kinds.Kind.{Kind}
 use Rattle.generator.specs.Kinds.{AreMade}
 use Rattle.generator.specs.Names.{made_name}
@@ -9,15 +9,12 @@ use Rattle.report_io.specs.declared.report.Report.{Report}
 use Rattle.report_io.specs.Report.{part_text}
 use Rattle.solve_report.specs.Reports.{IsSolvedReport, HasBest, IsPlainReport}
 
--- The report is of this instance, solved without edit workers at work. The most segments that a triangulation of so many
--- points has.
+-- the report is of this instance, solved without edit workers at work
 pub record IsRunReport (I : Instance) (E workers rounds seed : ℕ) (r : Report) : Type 0 where
   pub instance : r.instance ≡ I
   pub solved : IsSolvedReport E r
   pub best : HasBest workers rounds seed r
   pub plain : IsPlainReport r
-  pub few : length r.start ≤ 15000
-  pub fewer : length r.solution ≤ length r.start
 
 -- the summary line of the run on an instance made from a number, without workers of either kind
 abbrev pub IsSolvedLine : Kind → (n seed : ℕ) → List ℕ → Type 0

@@ -16,7 +16,7 @@ use Rattle.solution_io.specs.declared.fault.SolutionFault.{SolutionFault}
 use Rattle.solution_io.specs.declared.fault.SolutionFault.TheVariants as solution
 use Rattle.solution_io.specs.Refusal.{HasFault as HasEdgesFault}
 use Rattle.solver_top.specs.declared.words.Command.{Command}
-use Rattle.solver_top.specs.declared.words.Command.TheVariants.{Judge, Start, Solve, Check, Part, Weave, Gen, GenSolve}
+use Rattle.solver_top.specs.declared.words.Command.TheVariants.{Judge, Start, Solve, Check, Part, Gen, GenSolve}
 use Rattle.solver_top.specs.Statuses.{status_of}
 use Rattle.solver_top.specs.declared.status.Status.{Status}
 use Rattle.solver_top.specs.declared.status.Status.TheVariants as status
@@ -34,16 +34,12 @@ use Rattle.solver_top.specs.Judging.{IsJudged, IsRefused}
 use Rattle.solver_top.specs.Starting.{IsStarted, IsRefusedInstance}
 use Rattle.solver_top.specs.Solving.{IsSolveAnswer}
 use Rattle.solver_top.specs.Checking.{IsCheckAnswer, IsPartAnswer}
-use Rattle.solver_top.specs.Weaving.{IsWeaveAnswer, IsRefusedScript}
 use Rattle.report_io.specs.declared.report.Report.{Report}
 use Rattle.report_io.specs.declared.report.Part.{Part as ReportPart}
 use Rattle.report_io.specs.Report.{Gives as GivesReport}
 use Rattle.report_answers.specs.declared.answer.Told.TheVariants as told
 use Rattle.report_answers.specs.Answers.{IsRefusedReport}
 use Rattle.report_answers.proofs.Laws.{report_not_refused}
-use Rattle.weave.specs.declared.step.Step.{Step}
-use Rattle.weave_script.specs.Scripts.{IsScript}
-use Rattle.weave_script.proofs.Laws.{script_not_refused}
 
 parts_same : (input : List ℕ) (a b c d : Data) → HasParts input a b → HasParts input c d → (a ≡ c) × (b ≡ d)
 parts_same input a b c d h k =
@@ -83,9 +79,6 @@ not_refused_instance input text (few, (name, S, D, gives, ok)) (f, named, fault,
 pub not_refused_report : (input text : List ℕ) → HasInput Check input → IsRefusedReport input text → ⊥
 not_refused_report input text (few, (r, gives, ok)) (fault, named, h, e) = report_not_refused input r fault ok gives named h
 
-pub not_refused_script : (input text : List ℕ) → HasInput Weave input → IsRefusedScript input text → ⊥
-not_refused_script input text (few, (S, list, is)) (fault, named, h, e) = script_not_refused input S list fault is named h
-
 abbrev IsAnswered : Verdict → Type 0
 IsAnswered verdict = (verdict ≡ Done) ⊎ (verdict ≡ No)
 
@@ -118,12 +111,6 @@ part_answer part input r verdict text gives ok (told.Yes, is, h) = inl is
 part_answer part input r verdict text gives ok (told.No, is, h) = absurd h
 part_answer part input r verdict text gives ok (told.Refused, is, (fault, named, h, e)) = absurd (report_not_refused input r fault ok gives named h)
 
-weave_answer : (input : List ℕ) (S : List Point) (list : List Step) (verdict : Verdict) (text : List ℕ) → IsScript input S list → IsWeaveAnswer input verdict text → IsAnswered verdict
-weave_answer input S list Done text is h = inl refl
-weave_answer input S list No text is h = absurd h
-weave_answer input S list Usage text is h = absurd h
-weave_answer input S list Refused text is (fault, named, h, e) = absurd (script_not_refused input S list fault is named h)
-
 long_enough : (input : List ℕ) (left : Option (List ℕ)) (verdict : Verdict) (text : List ℕ) → length input ≤ most_input → IsTooLong input left verdict text → ⊥
 long_enough input left verdict text few h = omega (arith, h.0.0)
 
@@ -139,8 +126,6 @@ command_answered Check input left verdict text (few, (r, gives, ok)) (inl long) 
 command_answered Check input left verdict text (few, (r, gives, ok)) (inr (len, at_end, h)) = check_answer input r verdict text gives ok h
 command_answered (Part name) input left verdict text (few, (r, gives, ok)) (inl long) = absurd (long_enough input left verdict text few long)
 command_answered (Part name) input left verdict text (few, (r, gives, ok)) (inr (len, at_end, h)) = part_answer name input r verdict text gives ok h
-command_answered Weave input left verdict text (few, (S, list, is)) (inl long) = absurd (long_enough input left verdict text few long)
-command_answered Weave input left verdict text (few, (S, list, is)) (inr (len, at_end, h)) = weave_answer input S list verdict text is h
 command_answered (Gen kind n seed) input left verdict text has (alone, (done, made)) = inl done
 command_answered (GenSolve kind n seed) input left verdict text has (alone, (done, made)) = inl done
 

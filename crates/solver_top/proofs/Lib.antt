@@ -7,5 +7,4 @@ pub mod Written
 pub mod LineFaults
 pub mod Headline
 pub mod Reports
-pub mod Readable
 pub mod NoFirstWord

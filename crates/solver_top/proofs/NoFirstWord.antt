@@ -19,7 +19,6 @@ pub record IsNoFirst (word : List ℕ) : Type 0 where
   pub solve : word ≡ codes "solve" → ⊥
   pub check : word ≡ codes "check" → ⊥
   pub part : word ≡ codes "part" → ⊥
-  pub weave : word ≡ codes "weave" → ⊥
   pub gen : word ≡ codes "gen" → ⊥
   pub gen_solve : word ≡ codes "gen-solve" → ⊥
 
@@ -27,19 +26,17 @@ of_no_line : (Holds : List (List ℕ → Type 0) → List (List ℕ) → Type 0)
 of_no_line Holds word words none h =
     let gen_solve : Type 0 = MatchBool (bytes_eq word (codes "gen-solve")) (Holds gen_words words) ⊥ in
     let gen : Type 0 = MatchBool (bytes_eq word (codes "gen")) (Holds gen_words words) gen_solve in
-    let weave : Type 0 = MatchBool (bytes_eq word (codes "weave")) (Holds [] words) gen in
-    let part : Type 0 = MatchBool (bytes_eq word (codes "part")) (Holds part_words words) weave in
+    let part : Type 0 = MatchBool (bytes_eq word (codes "part")) (Holds part_words words) gen in
     let check : Type 0 = MatchBool (bytes_eq word (codes "check")) (Holds [] words) part in
     let solve : Type 0 = MatchBool (bytes_eq word (codes "solve")) (Holds (solve_words words) words) check in
     let start : Type 0 = MatchBool (bytes_eq word (codes "start")) (Holds [] words) solve in
     passed word (codes "gen-solve") (Holds gen_words words) ⊥ none.gen_solve
     (passed word (codes "gen") (Holds gen_words words) gen_solve none.gen
-    (passed word (codes "weave") (Holds [] words) gen none.weave
-    (passed word (codes "part") (Holds part_words words) weave none.part
+    (passed word (codes "part") (Holds part_words words) gen none.part
     (passed word (codes "check") (Holds [] words) part none.check
     (passed word (codes "solve") (Holds (solve_words words) words) check none.solve
     (passed word (codes "start") (Holds [] words) solve none.start
-    (passed word (codes "judge") (Holds [] words) start none.judge h)))))))
+    (passed word (codes "judge") (Holds [] words) start none.judge h))))))
 
 moved : (word other : List ℕ) → word ≡ other → IsNoFirst word → IsNoFirst other
 moved word other same none = record {
@@ -48,7 +45,6 @@ moved word other same none = record {
   solve = λ e. none.solve (same ∙ e);
   check = λ e. none.check (same ∙ e);
   part = λ e. none.part (same ∙ e);
-  weave = λ e. none.weave (same ∙ e);
   gen = λ e. none.gen (same ∙ e);
   gen_solve = λ e. none.gen_solve (same ∙ e);
 }

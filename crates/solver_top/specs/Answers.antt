@@ -9,7 +9,7 @@ use Rattle.cost_defs.specs.Costs.{Costed}
 use Rattle.text_defs.specs.Instances.{instance_from}
 use Rattle.instance_io.specs.Refusal.{Gives}
 use Rattle.solver_top.specs.declared.words.Command.{Command}
-use Rattle.solver_top.specs.declared.words.Command.TheVariants.{Judge, Start, Solve, Check, Part, Weave, Gen, GenSolve}
+use Rattle.solver_top.specs.declared.words.Command.TheVariants.{Judge, Start, Solve, Check, Part, Gen, GenSolve}
 use Rattle.solver_top.specs.declared.status.Verdict.{Verdict}
 use Rattle.solver_top.specs.declared.status.Verdict.TheVariants.{Done, Usage, Refused}
 use Rattle.solver_top.specs.Words.{IsLineOf, IsFaultAt}
@@ -19,10 +19,7 @@ use Rattle.solver_top.specs.Judging.{IsJudged}
 use Rattle.solver_top.specs.Starting.{IsStarted}
 use Rattle.solver_top.specs.Solving.{IsSolveAnswer}
 use Rattle.solver_top.specs.Checking.{IsCheckAnswer, IsPartAnswer}
-use Rattle.solver_top.specs.Weaving.{IsWeaveAnswer}
 use Rattle.solver_top.specs.Generating.{IsGenerated}
-use Rattle.weave.specs.declared.step.Step.{Step}
-use Rattle.weave_script.specs.Scripts.{IsScript}
 use Rattle.report_io.specs.declared.report.Report.{Report}
 use Rattle.report_io.specs.Report.{Gives as GivesReport}
 use Rattle.solve_report.specs.Texts.{IsSolvedLine}
@@ -47,7 +44,6 @@ IsInRange Start = Unit {0}
 IsInRange (Solve edit_workers bound_workers rounds seed) = (edit_workers ≤ 16) × (bound_workers ≤ 16) × ((edit_workers ≡ 0) ⊎ (rounds ≡ 0))
 IsInRange Check = Unit {0}
 IsInRange (Part name) = Unit {0}
-IsInRange Weave = Unit {0}
 IsInRange (Gen kind n seed) = (3 ≤ n) × (n ≤ 5000)
 IsInRange (GenSolve kind n seed) = (3 ≤ n) × (n ≤ 5000)
 
@@ -58,7 +54,6 @@ reads_input Start = true
 reads_input (Solve edit_workers bound_workers rounds seed) = true
 reads_input Check = true
 reads_input (Part name) = true
-reads_input Weave = true
 reads_input (Gen kind n seed) = false
 reads_input (GenSolve kind n seed) = false
 
@@ -69,7 +64,6 @@ IsAnswerTo Start input verdict text = IsStarted input verdict text
 IsAnswerTo (Solve edit_workers bound_workers rounds seed) input verdict text = IsSolveAnswer edit_workers bound_workers rounds seed input verdict text
 IsAnswerTo Check input verdict text = IsCheckAnswer input verdict text
 IsAnswerTo (Part name) input verdict text = IsPartAnswer name input verdict text
-IsAnswerTo Weave input verdict text = IsWeaveAnswer input verdict text
 IsAnswerTo (Gen kind n seed) input verdict text = (verdict ≡ Done) × IsGenerated kind n seed text
 IsAnswerTo (GenSolve kind n seed) input verdict text = (verdict ≡ Done) × IsSolvedLine kind n seed text
 
@@ -104,10 +98,6 @@ HasInstance input = (length input ≤ most_input)
 abbrev pub HasReport : List ℕ → Type 0
 HasReport input = (length input ≤ most_input) × ((r : Report) × GivesReport input r × AreAccepted r.instance.points)
 
--- the input is a script, within the limit
-abbrev pub HasScript : List ℕ → Type 0
-HasScript input = (length input ≤ most_input) × ((S : List Point) × (list : List Step) × IsScript input S list)
-
 -- the input has its reading for the command, within the limit
 abbrev pub HasInput : Command → List ℕ → Type 0
 HasInput Judge input = (length input ≤ most_input) × ((S : List Point) × (K : List Pair) × HasBundle input S K)
@@ -115,6 +105,5 @@ HasInput Start input = HasInstance input
 HasInput (Solve edit_workers bound_workers rounds seed) input = HasInstance input
 HasInput Check input = HasReport input
 HasInput (Part name) input = HasReport input
-HasInput Weave input = HasScript input
 HasInput (Gen kind n seed) input = Unit {0}
 HasInput (GenSolve kind n seed) input = Unit {0}

@@ -7,8 +7,6 @@ pub mod Starting
 pub mod Solving
 pub mod Generating
 pub mod Checking
-pub mod Weaving
 pub mod Answers
-pub mod Readable
 pub mod Reading
 pub mod WordFaults

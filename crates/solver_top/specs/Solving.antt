@@ -1,5 +1,5 @@
 -- What `solve` answers to an input. (This project's own.)
-use Rattle.std.specs.Prelude.{◌≡◌, ℕ, ◌≤◌, List, length, ◌⊎◌, Ok}
+use Rattle.std.specs.Prelude.{◌≡◌, ℕ, List, ◌⊎◌, Ok}
 use Rattle.std.specs.declared.option.Option.{Option}
 use Rattle.std.specs.Io.KnownBytes.{Appends}
 use Rattle.plane.specs.Accepted.{AreAccepted}
@@ -14,16 +14,13 @@ use Rattle.solver_top.specs.Starting.{IsRefusedInstance}
 
 -- The report is of the instance that the input is, solved with E edit workers and so many bound workers: one start,
 -- journal, solution and certificate of a solved instance, the certificate being the best that the bound workers find.
--- Where no edit worker makes a round, the start is all sweep pairs, and the journal their sweep alone. The start has no more
--- segments than a triangulation of 5,000 points, and the solution no more than the start.
+-- Where no edit worker makes a round, the start is all sweep pairs, and the journal their sweep alone.
 pub record IsSolvedFrom (input : List ℕ) (E workers rounds seed : ℕ) (r : Report) : Type 0 where
   pub read : IsRead (instance_from input) (Ok r.instance)
   pub accepted : AreAccepted r.instance.points
   pub solved : IsSolvedReport E r
   pub best : HasBest workers rounds seed r
   pub plain : (E ≡ 0) ⊎ (rounds ≡ 0) → IsPlainReport r
-  pub few : length r.start ≤ 15000
-  pub fewer : length r.solution ≤ length r.start
 
 -- the report of the instance, or the refusal of an input that is none
 abbrev pub IsSolveAnswer : (E workers rounds seed : ℕ) → List ℕ → Verdict → List ℕ → Type 0

@@ -5,7 +5,7 @@ use Rattle.std.specs.declared.alloc.Global.{Global}
 use Rattle.generator.specs.declared.kinds.Kind.{Kind}
 use Rattle.generator.specs.Names.{kind_word}
 use Rattle.solver_top.specs.declared.words.Command.{Command}
-use Rattle.solver_top.specs.declared.words.Command.TheVariants.{Judge, Start, Solve, Check, Part, Weave, Gen, GenSolve}
+use Rattle.solver_top.specs.declared.words.Command.TheVariants.{Judge, Start, Solve, Check, Part, Gen, GenSolve}
 use Rattle.report_io.specs.declared.report.Part.{Part as ReportPart}
 use Rattle.report_io.specs.declared.report.Part.TheVariants as part
 
@@ -57,7 +57,7 @@ Begins [] (word ∷ words) = ⊥
 Begins (May ∷ line) (word ∷ words) = May word × Begins line words
 
 -- what holds of the words behind a first word, by what its lines may have there: the lines are `judge`, `start`,
--- `solve E B ROUNDS SEED`, `check`, `part NAME`, `weave`, `gen KIND N SEED` and `gen-solve KIND N SEED`
+-- `solve E B ROUNDS SEED`, `check`, `part NAME`, `gen KIND N SEED` and `gen-solve KIND N SEED`
 abbrev pub OfALine : (List (List ℕ → Type 0) → List (List ℕ) → Type 0) → List ℕ → List (List ℕ) → Type 0
 OfALine Holds first words =
     MatchBool (bytes_eq first (codes "judge")) (Holds [] words)
@@ -65,9 +65,8 @@ OfALine Holds first words =
     (MatchBool (bytes_eq first (codes "solve")) (Holds (solve_words words) words)
     (MatchBool (bytes_eq first (codes "check")) (Holds [] words)
     (MatchBool (bytes_eq first (codes "part")) (Holds part_words words)
-    (MatchBool (bytes_eq first (codes "weave")) (Holds [] words)
     (MatchBool (bytes_eq first (codes "gen")) (Holds gen_words words)
-    (MatchBool (bytes_eq first (codes "gen-solve")) (Holds gen_words words) ⊥)))))))
+    (MatchBool (bytes_eq first (codes "gen-solve")) (Holds gen_words words) ⊥))))))
 
 -- the words begin some line
 abbrev pub BeginsALine : List (List ℕ) → Type 0
@@ -83,7 +82,6 @@ IsLineOf words (Solve edit_workers bound_workers rounds seed) =
     × (edit_workers ≤ 16) × (bound_workers ≤ 16) × (rounds ≤ 1000) × ((edit_workers ≡ 0) ⊎ (rounds ≡ 0)) × (seed < 2 ^ 64)
 IsLineOf words Check = words ≡ codes "check" ∷ []
 IsLineOf words (Part name) = words ≡ codes "part" ∷ part_word name ∷ []
-IsLineOf words Weave = words ≡ codes "weave" ∷ []
 IsLineOf words (GenSolve kind n seed) = (words ≡ codes "gen-solve" ∷ kind_word kind ∷ decimal n ∷ decimal seed ∷ []) × (3 ≤ n) × (n ≤ 5000) × (seed < 2 ^ 64)
 IsLineOf words (Gen kind n seed) = (words ≡ codes "gen" ∷ kind_word kind ∷ decimal n ∷ decimal seed ∷ []) × (3 ≤ n) × (n ≤ 5000) × (seed < 2 ^ 64)
 

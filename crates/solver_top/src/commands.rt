@@ -6,4 +6,3 @@ pub mod judging;
 pub mod refusing;
 pub mod solving;
 pub mod starting;
-pub mod weaving;

@@ -20,8 +20,10 @@ pub use commands::judging::judged;
 pub use commands::refusing::refused_instance;
 pub use commands::solving::{solved, solved_made};
 pub use commands::starting::started;
-pub use commands::weaving::woven;
 pub use refusals::{BundleFault, Refusal, Unread};
 pub use running::{MOST_INPUT, run};
 pub use status::{NO_WORDS, Status, Verdict};
 pub use words::{Command, read_words};
+
+#[cfg(test)]
+mod tests;

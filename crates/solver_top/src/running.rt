@@ -21,7 +21,6 @@ ghost use Rattle.solver_top.specs.Judging.{IsJudged};
 ghost use Rattle.solver_top.specs.Starting.{IsStarted};
 ghost use Rattle.solver_top.specs.Solving.{IsSolveAnswer, IsSolvedFrom, Reports};
 ghost use Rattle.solver_top.specs.Checking.{IsCheckAnswer, IsPartAnswer, TellsReport};
-ghost use Rattle.solver_top.specs.Weaving.{IsWeaveAnswer};
 ghost use Rattle.solver_top.specs.Generating.{IsGenerated};
 ghost use Rattle.report_io.specs.declared.report.Part.{Part as ReportPart};
 
@@ -31,7 +30,6 @@ use crate::commands::generating::generated;
 use crate::commands::judging::judged;
 use crate::commands::solving::{solved, solved_made};
 use crate::commands::starting::started;
-use crate::commands::weaving::woven;
 use crate::lines::usage_line;
 use crate::status::{Status, Verdict};
 use crate::words::{Command, read_words};
@@ -181,7 +179,6 @@ fn work<R: Threads + Sync, G: Gate + Sync>(
         }
         Command::Check => checked(alloc, bytes),
         Command::Part(part) => parted(alloc, bytes, part),
-        Command::Weave => woven(alloc, bytes),
         Command::Gen { kind, n, seed } => generated(alloc, kind, n, seed),
         Command::GenSolve { kind, n, seed } => solved_made(rt, alloc, kind, n, seed),
     }
@@ -279,9 +276,6 @@ pub fn run<R: Threads + Sync, I: Source, O: Sink, G: Gate + Sync>(
     ensures part { (xs : List ℕ) (part : ReportPart) → IsLineOf (words_of words.now) (Command.Part part) →
         I.left input.old ≡ Some xs → HasText result → (verdict : Verdict) × (text : List ℕ)
         × ReadsAll (IsPartAnswer part) xs (I.left input.new) verdict text
-        × IsWritten result verdict text (O.contents out.old) (O.contents out.new) }
-    ensures weave { (xs : List ℕ) → IsLineOf (words_of words.now) Command.Weave → I.left input.old ≡ Some xs →
-        HasText result → (verdict : Verdict) × (text : List ℕ) × ReadsAll IsWeaveAnswer xs (I.left input.new) verdict text
         × IsWritten result verdict text (O.contents out.old) (O.contents out.new) }
     ensures generated_solved { (kind : Kind) (n seed : ℕ) →
         IsLineOf (words_of words.now) (Command.GenSolve kind n seed) →

@@ -38,8 +38,6 @@ pub enum Command {
     Check,
     /// `part NAME`: writes one line of a report.
     Part(Part),
-    /// `weave`: plays a script of several callers on one core.
-    Weave,
     /// `gen KIND N SEED`: writes an instance made from a number.
     Gen {
         /// The kind, by its word.
@@ -67,7 +65,7 @@ impl Command {
     {
         match self {
             Command::Judge | Command::Start | Command::Solve { .. } => true,
-            Command::Check | Command::Part(_) | Command::Weave => true,
+            Command::Check | Command::Part(_) => true,
             Command::Gen { .. } | Command::GenSolve { .. } => false,
         }
     }
@@ -95,7 +93,6 @@ fn by_first_word(words: &[String]) -> Result<Command, usize>
             "solve" => after_solve(rest),
             "check" => after_check(rest),
             "part" => after_part(rest),
-            "weave" => after_weave(rest),
             "gen" => after_gen(rest),
             "gen-solve" => after_gen_solve(rest),
             _ => Err(0),
@@ -134,18 +131,6 @@ fn after_check(rest: &[String]) -> Result<Command, usize>
 {
     if rest.is_empty() {
         Ok(Command::Check)
-    } else {
-        Err(1)
-    }
-}
-
-// What stands behind `weave`.
-fn after_weave(rest: &[String]) -> Result<Command, usize>
-    ensures ok { IfOk result (IsLineOf (codes "weave" ∷ words_of rest.now)) }
-    ensures err { IfErr result (IsLineFaultAt (codes "weave" ∷ words_of rest.now)) }
-{
-    if rest.is_empty() {
-        Ok(Command::Weave)
     } else {
         Err(1)
     }

@@ -1,19 +1,19 @@
-use Rattle.std.proofs.Common.{◌*◌, ◌≤◌, ◌∙◌, ap, arith}
-use Rattle.std.proofs.Math.Nat.{mul-le-mul_left}
+use Rattle.std.proofs.Common.{◌*◌, List, sym, ◌∙◌, ap, ap₂, subst, arith}
 use Rattle.std.proofs.lemmas.Int.{ints}
-use Rattle.cert_check.proofs.Overloads.{HasNumbers, kept_numbers, kept_small, is_over}
+use Rattle.plane.specs.declared.coordinates.Point.{Point}
+use Rattle.price_defs.specs.Rows.{AreRight}
+use Rattle.price_defs.specs.Loads.{gives}
+use Rattle.cert_check.proofs.Overloads.{HasNumbers, is_over}
 use Rattle.cert_check.proofs.overload.excess.Goals as goal
 
-pub overflow_add-allowed : goal.overflow_add-allowed
-overflow_add-allowed c =
-    let m : c.args.q * c.from.result ≤ c.args.q * 1000 = mul-le-mul_left c.args.q (let h : c.from.result ≤ 1000 = omega (arith, c.from.ensures, c.of.ensures.within) in h) in
-    omega (arith, m, c.of-taken.ensures, kept_small c.args.points.now c.args.sums.now c.args.takers.now c.args.e.lo c.args.e.hi c.requires.kept)
-
-pub returns-clause-excess : goal.returns-clause-excess
-returns-clause-excess c =
-    let n : HasNumbers c.args.points.now c.args.costs.now c.args.q c.args.sums.now.rows c.args.e.lo c.args.e.hi (c.args.q * c.from.result) c.of-given.result c.of-taken.result =
-    kept_numbers c.args.points.now c.args.costs.now c.args.q c.args.sums.now c.args.takers.now c.args.e.lo c.args.e.hi (c.args.q * c.from.result) c.of-given.result c.of-taken.result c.requires.kept
-    (ap (λ n. c.args.q * n) (c.from.ensures ∙ c.of.ensures.cost)) c.of-given.ensures.gives c.of-taken.ensures in
-    let o = is_over c.args.points.now c.args.costs.now c.args.q c.args.sums.now.rows c.args.e.lo c.args.e.hi (c.args.q * c.from.result) c.of-given.result c.of-taken.result n c.requires.kept.right c.args.e.ordered c.requires.end
-    (c.in_ok-has.ensures.clear.0 c.if-not-branch.false) (omega (arith, c.if-given-allowed-2.false)) in
-    (o.0, omega (arith, ints, o.1, c.of-given.ensures.small, c.of-taken.ensures, kept_small c.args.points.now c.args.sums.now c.args.takers.now c.args.e.lo c.args.e.hi c.requires.kept))
+pub returns : goal.returns
+returns c =
+    let right : AreRight c.args.points.now c.args.kept.now.rows = subst (λ (S : List Point). AreRight S c.args.kept.now.rows) (sym c.requires.points) c.rows-rows.ensures.right in
+    let n : HasNumbers c.args.points.now c.args.costs.now c.args.q c.args.kept.now.rows c.args.e.lo c.args.e.hi (c.args.q * c.from.result) c.gives-given.result c.takes-taken.result = record {
+      allows = ap (λ n. c.args.q * n) (c.from.ensures ∙ c.of.ensures.cost);
+      gets = c.gives-given.ensures.gives ∙ ap₂ (gives c.args.points.now c.args.kept.now.rows) c.lo.ensures c.hi.ensures;
+      loses = c.takes-taken.ensures.takes;
+    } in
+    let o = is_over c.args.points.now c.args.costs.now c.args.q c.args.kept.now.rows c.args.e.lo c.args.e.hi (c.args.q * c.from.result) c.gives-given.result c.takes-taken.result n right c.args.e.ordered c.requires.end
+    (c.is_clear.ensures.0 c.if-not-is_clear.false) (omega (arith, c.if-given-allowed-2.false)) in
+    (o.0, omega (arith, ints, o.1, c.gives-given.ensures.small, c.takes-taken.ensures.small))

@@ -1,18 +1,17 @@
-use Rattle.std.proofs.Common.{None, ◌+◌, ◌*◌, ◌∙◌, length, arith}
-use Rattle.cert_check.specs.Overloads.{IsFirstOverOf}
-use Rattle.cert_check.proofs.Overloads.{first_of_strips, strips_go_on}
+use Rattle.std.proofs.Common.{◌≡◌, inl, inr, subst, arith}
+use Rattle.std.proofs.lemmas.Bool.{cases_lt}
+use Rattle.price_defs.specs.Faults.{IsOver}
+use Rattle.cert_check.proofs.Overloads.{first_of_all}
 use Rattle.cert_check.proofs.overload.first_over.Goals as goal
 
 pub returns-in-Some : goal.returns-in-Some
 returns-in-Some c =
-    let found = rw c.in-Some.is at c.in_ok-found.ensures.first in
-    first_of_strips c.args.points.now c.args.costs.now c.args.q c.args.rows.now (c.loop-k.k * 32) (c.loop-k.k * 32 + 32) (length c.args.points.now) c.in-Some.over
-    (rw c.in_ok-sums.ensures.rows at found) c.loop-k.invariant.1
+    first_of_all c.args.points.now c.args.costs.now c.args.q c.args.kept.now.rows c.loop-i.i _ c.in-Some.over c.in-Some.ensures c.loop-i.invariant
 
-pub loop-k-preserved : goal.loop-k-preserved
-loop-k-preserved c =
-    let found = rw c.in_default.is at c.in_ok-found.ensures.first in
-    let none : IsFirstOverOf c.args.points.now c.args.costs.now c.args.q c.args.rows.now (c.loop-k.k * 32) (c.loop-k.k * 32 + 32) (length c.args.points.now) None = rw c.in_ok-sums.ensures.rows at found in (
-      c.in_ok-found.ensures.points ∙ c.loop-k.invariant.0,
-      λ i j ik ij jn. strips_go_on c.args.points.now c.args.costs.now c.args.q c.args.rows.now (c.loop-k.k * 32) (c.loop-k.k * 32 + 32) (length c.args.points.now) none c.loop-k.invariant.1 i j (omega arith) ij jn,
-    )
+pub loop-i-preserved : goal.loop-i-preserved
+loop-i-preserved c = λ i j il ij jn. elim (cases_lt i c.loop-i.i) [
+  | inl l ↦ c.loop-i.invariant i j l ij jn
+  | inr g ↦
+      let e : i ≡ c.loop-i.i = omega arith in
+      λ o. c.in_default.ensures j (omega arith) jn (subst (λ n. IsOver c.args.points.now c.args.costs.now c.args.q c.args.kept.now.rows n j) e o)
+]

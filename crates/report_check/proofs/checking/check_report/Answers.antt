@@ -2,7 +2,7 @@ use Rattle.std.proofs.Common.{Option, MatchOption, subst}
 use Rattle.report_defs.specs.declared.verdict.Verdict.{Verdict}
 use Rattle.report_defs.specs.Verdicts.{IsVerdict, HasSolved}
 use Rattle.report_check.specs.Replays.{HasPrices}
-use Rattle.report_check.proofs.Laws.{both_ways}
+use Rattle.report_check.proofs.Valid.{both_ways}
 use Rattle.report_check.proofs.checking.check_report.Goals as goal
 
 pub returns-in-Some-clause-valid : goal.returns-in-Some-clause-valid

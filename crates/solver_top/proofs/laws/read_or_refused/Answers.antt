@@ -1,4 +1,4 @@
-use Rattle.solver_top.proofs.Complete.{not_refused, not_refused_instance, not_refused_report, not_refused_script}
+use Rattle.solver_top.proofs.Complete.{not_refused, not_refused_instance, not_refused_report}
 use Rattle.solver_top.proofs.laws.read_or_refused.Goals as goal
 
 pub returns-clause-judge : goal.returns-clause-judge
@@ -9,6 +9,3 @@ returns-clause-start c = not_refused_instance
 
 pub returns-clause-check : goal.returns-clause-check
 returns-clause-check c = not_refused_report
-
-pub returns-clause-weave : goal.returns-clause-weave
-returns-clause-weave c = not_refused_script

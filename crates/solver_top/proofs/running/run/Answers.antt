@@ -1,5 +1,5 @@
 use Rattle.std.proofs.Common.{inl, inr, refl}
-use Rattle.solver_top.specs.declared.words.Command.TheVariants.{Judge, Start, Solve, Check, Part, Weave, Gen, GenSolve}
+use Rattle.solver_top.specs.declared.words.Command.TheVariants.{Judge, Start, Solve, Check, Part, Gen, GenSolve}
 use Rattle.solver_top.specs.declared.status.Verdict.TheVariants.{Done}
 use Rattle.solver_top.proofs.Written.{verdict_same, status_of_no_fault, written_same, answer_same}
 use Rattle.solver_top.proofs.Complete.{is_answered, done_or_no}
@@ -86,10 +86,6 @@ returns-in-Ok-clause-check g c = λ xs line told has.
 pub returns-in-Ok-clause-part : goal.returns-in-Ok-clause-part
 returns-in-Ok-clause-part g c = λ xs part line told has.
     (c.in-Ok.answer.verdict, c.in-Ok.answer.text.items, c.in-Ok.ensures.command (Part part) xs line told, c.deliver.ensures.written)
-
-pub returns-in-Ok-clause-weave : goal.returns-in-Ok-clause-weave
-returns-in-Ok-clause-weave g c = λ xs line told has.
-    (c.in-Ok.answer.verdict, c.in-Ok.answer.text.items, c.in-Ok.ensures.command Weave xs line told, c.deliver.ensures.written)
 
 pub returns-in-Ok-clause-told : goal.returns-in-Ok-clause-told
 returns-in-Ok-clause-told g c = λ xs told line is.

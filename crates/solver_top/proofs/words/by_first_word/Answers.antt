@@ -9,7 +9,6 @@ returns-in_default-clause-err c =
       solve = c.in_default.not-solve;
       check = c.in_default.not-check;
       part = c.in_default.not-part;
-      weave = c.in_default.not-weave;
       gen = c.in_default.not-gen;
       gen_solve = c.in_default.not-text;
     })

@@ -1,3 +1,0 @@
-pub mod laws
-mod Keys
-mod Marked

@@ -1,3 +1,0 @@
--- What proofs of other crates may cite of this crate.
-pub mod Earlier
-pub mod Undoing

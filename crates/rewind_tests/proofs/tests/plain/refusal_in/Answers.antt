@@ -1,5 +1,0 @@
-use Rattle.std.proofs.Common.{refl}
-use Rattle.rewind_tests.proofs.tests.plain.refusal_in.Goals as goal
-
-pub first_illegal-requires-clause-within : goal.first_illegal-requires-clause-within
-first_illegal-requires-clause-within c = c.if-not-is_within.ensures.0 refl

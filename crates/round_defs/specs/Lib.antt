@@ -1,4 +1,0 @@
-pub mod Candidates
-pub mod Rounds
-pub mod Handed
-pub mod Grown

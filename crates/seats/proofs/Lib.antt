@@ -1,4 +1,0 @@
-mod Settled
-mod Tried
-mod Entry
-pub mod Laws

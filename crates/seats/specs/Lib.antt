@@ -1,5 +1,0 @@
-pub mod Ground
-pub mod Cells
-pub mod Seats
-pub mod Claimed
-pub mod Resting

@@ -1,0 +1,10 @@
+pub mod Passes
+pub mod Answers
+pub mod Phases
+pub mod Looks
+pub mod Owning
+pub mod Stamping
+pub mod Laying
+pub mod Made
+pub mod Ended
+pub mod Supplied

@@ -1,0 +1,4 @@
+mod Steps
+mod Lists
+mod Regions
+mod Candidates

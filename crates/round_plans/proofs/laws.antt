@@ -1,0 +1,2 @@
+-- What proofs of other crates may cite of this crate.
+pub mod Firsts

@@ -1,0 +1,9 @@
+mod Further
+mod Refused
+mod Tried
+mod Counted
+mod Looked
+mod Gathered
+mod Planned
+mod Turned
+mod Searched

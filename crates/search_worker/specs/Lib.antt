@@ -1,0 +1,4 @@
+pub mod Working
+pub mod Handing
+pub mod Looking
+pub mod Turning

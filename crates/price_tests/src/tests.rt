@@ -1,0 +1,6 @@
+mod certificates;
+mod compared;
+mod instances;
+mod loads;
+mod plain;
+mod starts;

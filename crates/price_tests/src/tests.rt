@@ -1,5 +1,6 @@
 mod certificates;
 mod compared;
+mod floors;
 mod instances;
 mod loads;
 mod plain;

@@ -85,7 +85,7 @@ fn raise_plain(points: &Points, costs: &Costs, q: u64, rows: &mut Vec<Row>, k: u
 }
 
 // Raises all rows.
-fn raise_all_plain(points: &Points, costs: &Costs, q: u64, rows: &mut Vec<Row>) {
+pub fn raise_all_plain(points: &Points, costs: &Costs, q: u64, rows: &mut Vec<Row>) {
     for k in 0..rows.len() {
         raise_plain(points, costs, q, rows, k);
     }

@@ -1,4 +1,4 @@
-use Rattle.std.proofs.Common.{◌≤◌, arith}
+use Rattle.std.proofs.Common.{arith}
 use Rattle.raise_laws.proofs.laws.Raises.{grown_lost}
 use Rattle.price_tests.proofs.tests.starts.raised.Goals as goal
 

@@ -70,8 +70,8 @@ turn_none S D R e first second none fs (g, other, is) fit =
 pub unlooked : (S : List Point) (D : List Costed) (R : List Look) (es : List Edit) (b : Bool) → IsTrue b ↔ AreLooked R es → b ≡ false → IsAnswer S D (sights R) es None
 unlooked S D R es b told off fit = false≢true (sym off ∙ told.1 fit.looked)
 
-pub barred : (S : List Point) (D : List Costed) (R : List Look) (es : List Edit) (b : Bool) → IsTrue b ↔ (AreLooked R es × IsNoDearer D es) → b ≡ false → IsAnswer S D (sights R) es None
-barred S D R es b told off fit = false≢true (sym off ∙ told.1 (fit.looked, fit.cheap))
+pub dearer : (S : List Point) (D : List Costed) (R : List Look) (es : List Edit) (b : Bool) → IsTrue b ↔ IsNoDearer D es → b ≡ false → IsAnswer S D (sights R) es None
+dearer S D R es b told off fit = false≢true (sym off ∙ told.1 fit.cheap)
 
 pub unfit : (S : List Point) (D : List Costed) (R : List Look) (es : List Edit) (b : Bool) → IsTrue b ↔ FitInTurn S (star_in S (sights R)) es → b ≡ false → IsAnswer S D (sights R) es None
 unfit S D R es b told off fit = false≢true (sym off ∙ told.1 fit.fit)

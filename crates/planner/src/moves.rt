@@ -108,8 +108,7 @@ pub fn try_flip(
     requires agree { DoAgree points.now region.old }
     requires looked { AreLooked region.old (Edit.Flip from to ∷ rest.now) }
     requires marks { AreMarks rest.now }
-    ensures fit { IfOk result (λ b. IsTrue b
-        ↔ FitInTurn points.now (star_in points.now (sights region.old)) (Edit.Flip from to ∷ rest.now)) }
+    ensures fit { IfOk result (λ b. IsTrue b ↔ FitInTurn points.now (star_in points.now (sights region.old)) (Edit.Flip from to ∷ rest.now)) }
     ensures before { IsAsBefore points.now region.old region.new }
 {
     let _count = points.len();

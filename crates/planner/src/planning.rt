@@ -33,14 +33,6 @@ pub fn plan_one(points: &Points, region: &Region, edit: Edit) -> Option<Plan>
     Some(plan_of(region, &edits))
 }
 
-// Whether all that the edits touch was looked at, and what they keep doesn't cost more than what they drop.
-fn may_try(costs: &Costs, region: &Region, edits: &[Edit]) -> bool
-    requires { length edits.now ≤ 8 }
-    ensures { IsTrue result ↔ (AreLooked region.now edits.now × IsNoDearer costs.now edits.now) }
-{
-    has_all_touched(region, edits) && is_no_dearer(costs, edits)
-}
-
 /// The plan of edits of marks alone.
 pub fn plan_marks(
     points: &Points,
@@ -56,7 +48,10 @@ pub fn plan_marks(
     ensures answer { IsAnswer points.now costs.now (sights region.old) edits.now result }
     ensures before { IsAsBefore points.now region.old region.new }
 {
-    if !may_try(costs, region, edits) {
+    if !has_all_touched(region, edits) {
+        return None;
+    }
+    if !is_no_dearer(costs, edits) {
         return None;
     }
     if !try_edits(points, region, edits) {
@@ -102,7 +97,10 @@ pub fn plan_flip_then(
     ensures answer { IfOk result (IsAnswer points.now costs.now (sights region.old) edits.now) }
     ensures before { IsAsBefore points.now region.old region.new }
 {
-    if !may_try(costs, region, edits) {
+    if !has_all_touched(region, edits) {
+        return Ok(None);
+    }
+    if !is_no_dearer(costs, edits) {
         return Ok(None);
     }
     let fit = try_flip_all(points, region, from, to, edits)?;

@@ -1,5 +1,5 @@
-//! Tests of the planner: worked plans, all candidates at every vertex of small states beside the plain slow program, and
-//! regions that are made by hand.
+//! Tests of the planner: worked plans on regions that are made by hand, looks of two moments, and all moves at every vertex of
+//! small states beside the plain slow program.
 #![tactic(auto)]
 
 #[cfg(test)]

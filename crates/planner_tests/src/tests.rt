@@ -2,7 +2,7 @@ mod answering;
 mod candidates;
 mod compared;
 mod drawing;
-mod hand_made;
 mod making;
 mod moments;
+mod regions;
 mod worked;

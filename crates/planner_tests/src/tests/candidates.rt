@@ -1,4 +1,4 @@
-// The moves that are tried at a vertex, in the order in which an edit worker tries them from the first neighbour.
+// The moves at a vertex: drops, swaps with and without a flip, trades and flips.
 use super::making::pair;
 use plan_defs::Move;
 use plane::Pair;
@@ -6,21 +6,10 @@ use replay::Core;
 use std::alloc::Global;
 use std::test::Fail;
 
-/// The moves at a vertex by their kinds.
-#[derive(Drop)]
-pub struct Candidates {
-    pub drops: Vec<Move>,
-    pub swaps: Vec<Move>,
-    pub trades: Vec<Move>,
-    pub flip_swaps: Vec<Move>,
-    pub flips: Vec<Move>,
-}
-
-// The pairs at a vertex that are kept, or those that aren't, in the order of its star.
-fn pairs_at(alloc: Global, core: &Core, v: u32, kept: bool) -> Result<Vec<Pair>, Fail> {
-    let mut pairs = Vec::new(alloc);
+// Adds the pairs at a vertex that are kept, or those that aren't, in the order of its star.
+fn push_pairs_at(pairs: &mut Vec<Pair>, core: &Core, v: u32, kept: bool) -> Result<(), Fail> {
     if v >= core.points().len() {
-        return Ok(pairs);
+        return Ok(());
     }
     let star = core.star(v);
     for k in 0..star.degree() {
@@ -29,138 +18,163 @@ fn pairs_at(alloc: Global, core: &Core, v: u32, kept: bool) -> Result<Vec<Pair>,
             pairs.push(pair(v, w))?;
         }
     }
-    Ok(pairs)
-}
-
-fn push_twos(twos: &mut Vec<(Pair, Pair)>, first: Pair, rest: &[Pair]) -> Result<(), Fail> {
-    for second in rest {
-        twos.push((first, *second))?;
-    }
     Ok(())
 }
 
-/// All choices of two places of a list, the earlier first.
-pub fn twos(alloc: Global, list: &[Pair]) -> Result<Vec<(Pair, Pair)>, Fail> {
-    let mut twos = Vec::new(alloc);
-    for k in 0..list.len() {
-        push_twos(&mut twos, list[k], &list[k + 1..])?;
-    }
-    Ok(twos)
-}
-
-// Two drops of a list, or one.
-fn choices(alloc: Global, list: &[Pair]) -> Result<Vec<(Pair, Option<Pair>)>, Fail> {
-    let mut choices = Vec::new(alloc);
-    for (first, second) in &twos(alloc, list)? {
-        choices.push((*first, Some(*second)))?;
-    }
-    for first in list {
-        choices.push((*first, None))?;
-    }
-    Ok(choices)
+fn pairs_at(alloc: Global, core: &Core, v: u32, kept: bool) -> Result<Vec<Pair>, Fail> {
+    let mut pairs = Vec::new(alloc);
+    push_pairs_at(&mut pairs, core, v, kept)?;
+    Ok(pairs)
 }
 
 // The kept pairs at v, and then those at q.
 fn drops_of(alloc: Global, core: &Core, v: u32, q: u32) -> Result<Vec<Pair>, Fail> {
     let mut drops = pairs_at(alloc, core, v, true)?;
-    for e in &pairs_at(alloc, core, q, true)? {
-        drops.push(*e)?;
-    }
+    push_pairs_at(&mut drops, core, q, true)?;
     Ok(drops)
 }
 
-fn push_swaps(
-    candidates: &mut Candidates,
-    spare: Pair,
-    choices: &[(Pair, Option<Pair>)],
+fn push_drops(moves: &mut Vec<Move>, kept: &[Pair]) -> Result<(), Fail> {
+    for e in kept {
+        moves.push(Move::DropOne(*e))?;
+    }
+    Ok(())
+}
+
+// A swap, and the same after a flip.
+fn push_swap(
+    moves: &mut Vec<Move>,
+    pair: Pair,
+    first: Pair,
+    second: Option<Pair>,
 ) -> Result<(), Fail> {
-    for (first, second) in choices {
-        candidates.swaps.push(Move::Swap {
-            keep: spare,
-            first: *first,
-            second: *second,
-        })?;
-        candidates.flip_swaps.push(Move::FlipSwap {
-            pair: spare,
-            first: *first,
+    moves.push(Move::Swap {
+        keep: pair,
+        first,
+        second,
+    })?;
+    moves.push(Move::FlipSwap {
+        pair,
+        first,
+        second,
+    })?;
+    Ok(())
+}
+
+// Those that drop this pair, with each of the rest and alone.
+fn push_swaps_from(
+    moves: &mut Vec<Move>,
+    pair: Pair,
+    first: Pair,
+    rest: &[Pair],
+) -> Result<(), Fail> {
+    for second in rest {
+        push_swap(moves, pair, first, Some(*second))?;
+    }
+    push_swap(moves, pair, first, None)
+}
+
+fn push_swaps(moves: &mut Vec<Move>, pair: Pair, list: &[Pair]) -> Result<(), Fail> {
+    for k in 0..list.len() {
+        push_swaps_from(moves, pair, list[k], &list[k + 1..])?;
+    }
+    Ok(())
+}
+
+// Trades that drop this pair and one of the rest.
+fn push_trades_from(
+    moves: &mut Vec<Move>,
+    keep: (Pair, Pair),
+    first: Pair,
+    rest: &[Pair],
+) -> Result<(), Fail> {
+    for second in rest {
+        moves.push(Move::Trade {
+            keep: keep.0,
+            other: keep.1,
+            first,
             second: *second,
         })?;
     }
     Ok(())
 }
 
-fn push_trades(
-    trades: &mut Vec<Move>,
+fn push_trades_of(moves: &mut Vec<Move>, keep: (Pair, Pair), kept: &[Pair]) -> Result<(), Fail> {
+    for k in 0..kept.len() {
+        push_trades_from(moves, keep, kept[k], &kept[k + 1..])?;
+    }
+    Ok(())
+}
+
+// Trades that keep this pair and one of the rest.
+fn push_trades_with(
+    moves: &mut Vec<Move>,
     keep: Pair,
-    other: Pair,
-    drops: &[(Pair, Pair)],
+    rest: &[Pair],
+    kept: &[Pair],
 ) -> Result<(), Fail> {
-    for (first, second) in drops {
-        trades.push(Move::Trade {
-            keep,
-            other,
-            first: *first,
-            second: *second,
-        })?;
+    for other in rest {
+        push_trades_of(moves, (keep, *other), kept)?;
     }
     Ok(())
 }
 
+fn push_trades(moves: &mut Vec<Move>, spare: &[Pair], kept: &[Pair]) -> Result<(), Fail> {
+    for k in 0..spare.len() {
+        push_trades_with(moves, spare[k], &spare[k + 1..], kept)?;
+    }
+    Ok(())
+}
+
+// The other end of the pair.
+fn other_end(e: Pair, v: u32) -> u32 {
+    if e.lo() == v { e.hi() } else { e.lo() }
+}
+
+// The moves of a pair at v that isn't kept.
 fn push_spare(
     alloc: Global,
     core: &Core,
     v: u32,
     spare: Pair,
-    candidates: &mut Candidates,
+    moves: &mut Vec<Move>,
 ) -> Result<(), Fail> {
-    let q = if spare.lo() == v {
-        spare.hi()
-    } else {
-        spare.lo()
-    };
-    let list = drops_of(alloc, core, v, q)?;
-    push_swaps(candidates, spare, &choices(alloc, &list)?)?;
-    candidates.flips.push(Move::FlipOne(spare))?;
+    let list = drops_of(alloc, core, v, other_end(spare, v))?;
+    push_swaps(moves, spare, &list)?;
+    moves.push(Move::FlipOne(spare))?;
     Ok(())
 }
 
-/// The moves at a vertex.
-pub fn candidates_at(alloc: Global, core: &Core, v: u32) -> Result<Candidates, Fail> {
-    let mut candidates = Candidates {
-        drops: Vec::new(alloc),
-        swaps: Vec::new(alloc),
-        trades: Vec::new(alloc),
-        flip_swaps: Vec::new(alloc),
-        flips: Vec::new(alloc),
-    };
-    let kept = pairs_at(alloc, core, v, true)?;
-    let spare = pairs_at(alloc, core, v, false)?;
-    for e in &kept {
-        candidates.drops.push(Move::DropOne(*e))?;
+fn push_spares(
+    alloc: Global,
+    core: &Core,
+    v: u32,
+    spare: &[Pair],
+    moves: &mut Vec<Move>,
+) -> Result<(), Fail> {
+    for e in spare {
+        push_spare(alloc, core, v, *e, moves)?;
     }
-    for e in &spare {
-        push_spare(alloc, core, v, *e, &mut candidates)?;
-    }
-    let drops = twos(alloc, &kept)?;
-    for (keep, other) in &twos(alloc, &spare)? {
-        push_trades(&mut candidates.trades, *keep, *other, &drops)?;
-    }
-    Ok(candidates)
+    Ok(())
 }
 
-/// The trades at a vertex in another order: the drops are chosen before the keeps.
-pub fn trades_by_drops(alloc: Global, core: &Core, v: u32) -> Result<Vec<Move>, Fail> {
-    let keeps = twos(alloc, &pairs_at(alloc, core, v, false)?)?;
-    let mut trades = Vec::new(alloc);
-    for (first, second) in &twos(alloc, &pairs_at(alloc, core, v, true)?)? {
-        for (keep, other) in &keeps {
-            trades.push(Move::Trade {
-                keep: *keep,
-                other: *other,
-                first: *first,
-                second: *second,
-            })?;
-        }
-    }
-    Ok(trades)
+fn push_all(
+    alloc: Global,
+    core: &Core,
+    v: u32,
+    spare: &[Pair],
+    moves: &mut Vec<Move>,
+) -> Result<(), Fail> {
+    let kept = pairs_at(alloc, core, v, true)?;
+    push_drops(moves, &kept)?;
+    push_spares(alloc, core, v, spare, moves)?;
+    push_trades(moves, spare, &kept)
+}
+
+/// The moves at a vertex.
+pub fn moves_at(alloc: Global, core: &Core, v: u32) -> Result<Vec<Move>, Fail> {
+    let spare = pairs_at(alloc, core, v, false)?;
+    let mut moves = Vec::new(alloc);
+    push_all(alloc, core, v, &spare, &mut moves)?;
+    Ok(moves)
 }

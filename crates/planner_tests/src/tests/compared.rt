@@ -1,13 +1,13 @@
 // All moves at every vertex of drawn small states: the planner's answers are those of the plain slow program.
+ghost use Rattle.std.specs.Prelude.{◌≡◌};
 ghost use Rattle.planner_tests.specs.Regions.{IsAgreed};
 
 use super::answering::{Scene, compare_move};
-use super::candidates::candidates_at;
+use super::candidates::moves_at;
 use super::drawing::{any_costs, any_edits, below, next};
-use super::hand_made::wheel;
-use super::making::{agreed_region, core_of, enter};
+use super::making::{agreed_region, core_of, enter, pair};
 use cost_defs::Costs;
-use journal_defs::replay;
+use journal_defs::{Edit, Lists, replay};
 use plan_defs::Move;
 use planner::Region;
 use replay::Core;
@@ -92,16 +92,34 @@ fn compare_vertex(
 ) -> Result<(), Fail>
     requires { scene.now.points.now ≡ scene.now.core.now.points }
 {
-    let moves = candidates_at(alloc, scene.core, v)?;
+    let moves = moves_at(alloc, scene.core, v)?;
     let mut region = agreed_region(scene.points, scene.core, scene.looked)?;
-    compare_moves(rt, alloc, scene, &mut region, &moves.drops, tally)?;
-    compare_moves(rt, alloc, scene, &mut region, &moves.swaps, tally)?;
-    compare_moves(rt, alloc, scene, &mut region, &moves.trades, tally)?;
-    compare_moves(rt, alloc, scene, &mut region, &moves.flip_swaps, tally)?;
-    compare_moves(rt, alloc, scene, &mut region, &moves.flips, tally)
+    compare_moves(rt, alloc, scene, &mut region, &moves, tally)
 }
 
-// All vertices of one state, from looks at each and its neighbours. At every other vertex one point isn't looked at.
+// All moves at a vertex, from looks at it and its neighbours but for one.
+fn compare_looked(
+    rt: &impl Abort,
+    alloc: Global,
+    core: &Core,
+    costs: &Costs,
+    state: &Lists,
+    v: u32,
+    passed: u32,
+    tally: &mut Tally,
+) -> Result<(), Fail> {
+    let looked = looked_from(alloc, core, v, passed)?;
+    let scene = Scene {
+        points: core.points(),
+        core,
+        state,
+        costs,
+        looked: &looked,
+    };
+    compare_vertex(rt, alloc, &scene, v, tally)
+}
+
+// All vertices of one state. At about every other vertex one point isn't looked at.
 fn compare_state(
     rt: &impl Abort,
     alloc: Global,
@@ -111,30 +129,43 @@ fn compare_state(
     tally: &mut Tally,
 ) -> Result<(), Fail> {
     let state = replay(alloc, core.start(), core.journal())?;
-    let points = core.points();
-    let count = points.len();
+    let count = core.points().len();
     let mut seed = seed;
     for v in 0..count {
         seed = next(seed);
         let passed = below(seed, count.saturating_mul(2));
-        let looked = looked_from(alloc, core, v, passed)?;
-        let scene = Scene {
-            points,
-            core,
-            state: &state,
-            costs,
-            looked: &looked,
-        };
-        compare_vertex(rt, alloc, &scene, v, tally)?;
+        compare_looked(rt, alloc, core, costs, &state, v, passed, tally)?;
     }
     Ok(())
 }
 
-// So many states, one after the other, with unit costs and with drawn ones.
+// Drawn edits, where there are some that are legal.
+fn step(alloc: Global, core: &mut Core, seed: u64) -> Result<(), Fail> {
+    let edits = any_edits(alloc, core, seed)?;
+    if !edits.is_empty() {
+        enter(core, &edits)?;
+    }
+    Ok(())
+}
+
+// A state with unit costs, and with drawn ones.
+fn compare_costs(
+    rt: &impl Abort,
+    alloc: Global,
+    core: &Core,
+    seed: u64,
+    tally: &mut Tally,
+) -> Result<(), Fail> {
+    let costs = any_costs(alloc, core.points().len(), seed)?;
+    compare_state(rt, alloc, core, &costs, next(seed), tally)?;
+    compare_state(rt, alloc, core, &Costs::unit(), seed, tally)
+}
+
+// So many states, one after the other.
 fn walk(
     rt: &impl Abort,
     alloc: Global,
-    mut core: Core,
+    core: &mut Core,
     seed: u64,
     count: u32,
 ) -> Result<Tally, Fail> {
@@ -142,13 +173,8 @@ fn walk(
     let mut seed = seed;
     for _ in 0..count {
         seed = next(seed);
-        let edits = any_edits(alloc, &core, seed)?;
-        if !edits.is_empty() {
-            enter(&mut core, &edits)?;
-        }
-        compare_state(rt, alloc, &core, &Costs::unit(), seed, &mut tally)?;
-        let costs = any_costs(alloc, core.points().len(), seed)?;
-        compare_state(rt, alloc, &core, &costs, next(seed), &mut tally)?;
+        step(alloc, core, seed)?;
+        compare_costs(rt, alloc, core, seed, &mut tally)?;
     }
     Ok(tally)
 }
@@ -157,33 +183,44 @@ const GRID: [(i64, i64); 6] = [(0, 0), (10, 0), (20, 0), (0, 10), (10, 10), (20,
 
 const SCATTERED: [(i64, i64); 7] = [(0, 0), (9, 1), (4, 8), (3, 3), (5, 4), (2, 5), (7, 3)];
 
+const WHEEL: [(i64, i64); 7] = [(0, 0), (6, 0), (5, 3), (3, 5), (0, 6), (-6, 0), (-3, -5)];
+
+// A wheel of six spokes, of which those to 3, 5 and 6 are kept.
+fn turn_wheel(core: &mut Core) -> Result<(), Fail> {
+    let (from, to) = (pair(2, 6), pair(0, 1));
+    enter(core, &[Edit::Drop(from), Edit::Flip { from, to }])?;
+    enter(core, &[Edit::Drop(pair(0, 2)), Edit::Drop(pair(0, 4))])?;
+    Ok(())
+}
+
 #[test]
 fn all_moves_on_a_grid(rt: HostRuntime) -> Result<(), Fail> {
-    let core = core_of(&rt, rt.alloc(), &GRID)?;
-    let tally = walk(&rt, rt.alloc(), core, 5, 8)?;
-    assert!(&rt; tally.flips > 5, "{} flips", tally.flips);
-    assert!(&rt; tally.none > 50, "{} without a plan", tally.none);
+    let mut core = core_of(&rt, rt.alloc(), &GRID)?;
+    let tally = walk(&rt, rt.alloc(), &mut core, 5, 8)?;
+    assert!(&rt; tally.flips > 5);
+    assert!(&rt; tally.none > 50);
     Ok(())
 }
 
 #[test]
 fn all_moves_on_scattered_points(rt: HostRuntime) -> Result<(), Fail> {
-    let core = core_of(&rt, rt.alloc(), &SCATTERED)?;
-    let tally = walk(&rt, rt.alloc(), core, 11, 4)?;
-    assert!(&rt; tally.drops > 5, "{} drops", tally.drops);
-    assert!(&rt; tally.none > 50, "{} without a plan", tally.none);
+    let mut core = core_of(&rt, rt.alloc(), &SCATTERED)?;
+    let tally = walk(&rt, rt.alloc(), &mut core, 11, 4)?;
+    assert!(&rt; tally.drops > 5);
+    assert!(&rt; tally.none > 50);
     Ok(())
 }
 
 // On a wheel each kind of move gives plans.
 #[test]
 fn all_moves_on_a_wheel(rt: HostRuntime) -> Result<(), Fail> {
-    let core = wheel(&rt, rt.alloc())?;
-    let tally = walk(&rt, rt.alloc(), core, 7, 3)?;
-    assert!(&rt; tally.drops > 5, "{} drops", tally.drops);
-    assert!(&rt; tally.swaps > 5, "{} swaps", tally.swaps);
-    assert!(&rt; tally.trades > 5, "{} trades", tally.trades);
-    assert!(&rt; tally.flip_swaps > 5, "{} turned", tally.flip_swaps);
-    assert!(&rt; tally.flips > 5, "{} flips", tally.flips);
+    let mut core = core_of(&rt, rt.alloc(), &WHEEL)?;
+    turn_wheel(&mut core)?;
+    let tally = walk(&rt, rt.alloc(), &mut core, 7, 3)?;
+    assert!(&rt; tally.drops > 5);
+    assert!(&rt; tally.swaps > 5);
+    assert!(&rt; tally.trades > 5);
+    assert!(&rt; tally.flip_swaps > 5);
+    assert!(&rt; tally.flips > 5);
     Ok(())
 }

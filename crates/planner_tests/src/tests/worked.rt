@@ -1,11 +1,11 @@
 // Worked plans on looks of a core. The expected answers are this project's worked ones.
 use super::answering::answer;
-use super::making::{agreed_region, core_of, enter, look_at, region_of, swept};
+use super::making::{agreed_region, core_of, enter, swept};
 use cost_defs::{Costs, are_costs};
+use edit::{Claim, Plan};
 use journal_defs::Edit;
 use plan_defs::Move;
 use plane::Pair;
-use planner::Region;
 use replay::Core;
 use std::alloc::Global;
 use std::process::Abort;
@@ -15,150 +15,232 @@ const GRID: [(i64, i64); 6] = [(0, 0), (10, 0), (20, 0), (0, 10), (10, 10), (20,
 
 const CENTRED: [(i64, i64); 5] = [(0, 0), (0, 4), (4, 0), (4, 4), (2, 2)];
 
-fn flip(from: Pair, to: Pair) -> Edit {
-    Edit::Flip { from, to }
-}
-
-// A move with the edits and the claims of its plan, or with no edits where there is none.
-#[derive(Clone, Copy)]
-struct Row<'a> {
-    asked: Move,
-    edits: &'a [Edit],
-    claims: &'a [(u32, u64)],
-}
-
-fn planned<'a>(asked: Move, edits: &'a [Edit], claims: &'a [(u32, u64)]) -> Row<'a> {
-    Row {
-        asked,
-        edits,
-        claims,
+fn are_claims(claims: &[Claim], wanted: &[(u32, u64)]) -> bool {
+    if claims.len() != wanted.len() {
+        return false;
     }
+    for (claim, (vertex, stamp)) in claims.iter().zip(wanted) {
+        if claim.vertex != *vertex || claim.stamp != *stamp {
+            return false;
+        }
+    }
+    true
 }
 
-// The answer of each row, on looks at these vertices.
-fn expect_rows(
+// The answer on looks at these vertices, under these costs.
+fn answered(core: &Core, costs: &Costs, looked: &[u32], asked: Move) -> Result<Option<Plan>, Fail> {
+    let points = core.points();
+    let mut region = agreed_region(points, core, looked)?;
+    answer(points, costs, &mut region, asked)
+}
+
+fn expect_plan(
     rt: &impl Abort,
     core: &Core,
     costs: &Costs,
     looked: &[u32],
-    rows: &[Row<'_>],
+    asked: Move,
+    edits: &[Edit],
+    claims: &[(u32, u64)],
 ) -> Result<(), Fail> {
-    let points = core.points();
-    for (k, row) in rows.iter().enumerate() {
-        let mut region = agreed_region(points, core, looked)?;
-        match answer(points, costs, &mut region, row.asked)? {
-            None => assert!(rt; row.edits.is_empty(), "row {k}"),
-            Some(plan) => {
-                assert!(rt; plan.edits() == row.edits, "row {k}");
-                assert_eq!(rt; plan.claims().len(), row.claims.len(), "row {k}");
-                for (claim, wanted) in plan.claims().iter().zip(row.claims) {
-                    assert_eq!(rt; (claim.vertex, claim.stamp), *wanted, "row {k}");
-                }
-            }
+    match answered(core, costs, looked, asked)? {
+        None => Err(Fail::from("no plan")),
+        Some(plan) => {
+            assert!(rt; plan.edits() == edits);
+            assert!(rt; are_claims(plan.claims(), claims));
+            Ok(())
         }
     }
+}
+
+fn expect_none(
+    rt: &impl Abort,
+    core: &Core,
+    costs: &Costs,
+    looked: &[u32],
+    asked: Move,
+) -> Result<(), Fail> {
+    assert!(rt; answered(core, costs, looked, asked)?.is_none());
     Ok(())
+}
+
+fn swap(keep: Pair, first: Pair) -> Move {
+    Move::Swap {
+        keep,
+        first,
+        second: None,
+    }
+}
+
+fn flip_swap(pair: Pair, first: Pair) -> Move {
+    Move::FlipSwap {
+        pair,
+        first,
+        second: None,
+    }
+}
+
+fn flip() -> Edit {
+    Edit::Flip {
+        from: Pair::of(1, 3),
+        to: Pair::of(0, 4),
+    }
+}
+
+fn grid(rt: &impl Abort, alloc: Global) -> Result<Core, Fail> {
+    let mut core = core_of(rt, alloc, &GRID)?;
+    let number = enter(&mut core, &[Edit::Drop(Pair::of(1, 3))])?;
+    assert!(rt; number == 1);
+    Ok(core)
+}
+
+// The swap that keeps the pair which is gone and drops another, on looks at these vertices.
+fn expect_grid_swap(rt: &impl Abort, core: &Core, looked: &[u32]) -> Result<(), Fail> {
+    let (gone, side) = (Pair::of(1, 3), Pair::of(1, 4));
+    let edits = [Edit::Keep(gone), Edit::Drop(side)];
+    let claims = [(1, 1), (3, 1), (4, 0)];
+    expect_plan(
+        rt,
+        core,
+        &Costs::unit(),
+        looked,
+        swap(gone, side),
+        &edits,
+        &claims,
+    )
 }
 
 #[test]
-fn plans_of_a_grid(rt: HostRuntime) -> Result<(), Fail> {
-    let mut core = core_of(&rt, rt.alloc(), &GRID)?;
-    assert_eq!(&rt; enter(&mut core, &[Edit::Drop(Pair::of(1, 3))])?, 1);
-    let (gone, side, across) = (Pair::of(1, 3), Pair::of(1, 4), Pair::of(0, 4));
-    let four: &[(u32, u64)] = &[(0, 0), (1, 1), (3, 1), (4, 0)];
-    let swapped = [Edit::Keep(gone), Edit::Drop(side)];
-    let flipped = [flip(gone, across)];
-    let turned = [flip(gone, across), Edit::Keep(across), Edit::Drop(side)];
-    let swap = Move::Swap {
-        keep: gone,
-        first: side,
-        second: None,
-    };
-    let turn = Move::FlipSwap {
-        pair: gone,
-        first: side,
-        second: None,
-    };
-    let rows = [
-        planned(Move::DropOne(gone), &[], &[]),
-        planned(swap, &swapped, &[(1, 1), (3, 1), (4, 0)]),
-        planned(Move::FlipOne(gone), &flipped, four),
-        planned(turn, &turned, four),
+fn a_drop_and_swaps_of_a_grid(rt: HostRuntime) -> Result<(), Fail> {
+    let core = grid(&rt, rt.alloc())?;
+    let gone = Move::DropOne(Pair::of(1, 3));
+    expect_none(&rt, &core, &Costs::unit(), &[0, 1, 3, 4], gone)?;
+    expect_grid_swap(&rt, &core, &[0, 1, 3, 4])?;
+    expect_grid_swap(&rt, &core, &[1, 3, 4])
+}
+
+#[test]
+fn a_flip_of_a_grid(rt: HostRuntime) -> Result<(), Fail> {
+    let core = grid(&rt, rt.alloc())?;
+    let asked = Move::FlipOne(Pair::of(1, 3));
+    let claims = [(0, 0), (1, 1), (3, 1), (4, 0)];
+    expect_plan(
+        &rt,
+        &core,
+        &Costs::unit(),
+        &[0, 1, 3, 4],
+        asked,
+        &[flip()],
+        &claims,
+    )?;
+    expect_none(&rt, &core, &Costs::unit(), &[1, 3, 4], asked)
+}
+
+// Its plan is a commit that is taken.
+#[test]
+fn a_flip_and_a_swap_of_a_grid(rt: HostRuntime) -> Result<(), Fail> {
+    let mut core = grid(&rt, rt.alloc())?;
+    let asked = flip_swap(Pair::of(1, 3), Pair::of(1, 4));
+    let edits = [
+        flip(),
+        Edit::Keep(Pair::of(0, 4)),
+        Edit::Drop(Pair::of(1, 4)),
     ];
-    expect_rows(&rt, &core, &Costs::unit(), &[0, 1, 3, 4], &rows)?;
-    let outside = [
-        planned(swap, &swapped, &[(1, 1), (3, 1), (4, 0)]),
-        planned(Move::FlipOne(gone), &[], &[]),
-        planned(turn, &[], &[]),
-    ];
-    expect_rows(&rt, &core, &Costs::unit(), &[1, 3, 4], &outside)?;
-    assert_eq!(&rt; enter(&mut core, &turned)?, 2);
+    let claims = [(0, 0), (1, 1), (3, 1), (4, 0)];
+    expect_plan(
+        &rt,
+        &core,
+        &Costs::unit(),
+        &[0, 1, 3, 4],
+        asked,
+        &edits,
+        &claims,
+    )?;
+    expect_none(&rt, &core, &Costs::unit(), &[1, 3, 4], asked)?;
+    let number = enter(&mut core, &edits)?;
+    assert!(&rt; number == 2);
     Ok(())
 }
 
-fn cost_of_one(rt: &impl Abort, alloc: Global, e: Pair, cost: u32) -> Result<Costs, Fail> {
+fn cost_of_one(alloc: Global, e: Pair, cost: u32) -> Result<Costs, Fail> {
     let mut list = Vec::new(alloc);
     list.push((e, cost))?;
-    assert!(rt; are_costs(list.as_slice()));
-    Ok(Costs::make(list))
+    if are_costs(list.as_slice()) {
+        Ok(Costs::make(list))
+    } else {
+        Err(Fail::from("no costs"))
+    }
 }
 
-#[test]
-fn plans_that_count_costs(rt: HostRuntime) -> Result<(), Fail> {
-    let mut core = core_of(&rt, rt.alloc(), &CENTRED)?;
-    assert_eq!(&rt; swept(&mut core)?, 2);
-    let (first, second) = (Pair::of(0, 4), Pair::of(3, 4));
-    let (third, last) = (Pair::of(1, 4), Pair::of(2, 4));
-    let traded = [
-        Edit::Keep(first),
-        Edit::Keep(second),
-        Edit::Drop(third),
-        Edit::Drop(last),
-    ];
-    let trade = Move::Trade {
-        keep: first,
-        other: second,
-        first: third,
-        second: last,
-    };
-    let swap = Move::Swap {
-        keep: first,
-        first: third,
-        second: None,
-    };
-    let stamped: &[(u32, u64)] = &[(0, 1), (1, 0), (2, 0), (3, 2), (4, 2)];
-    let dear = cost_of_one(&rt, rt.alloc(), third, 3)?;
-    let all = [0, 1, 2, 3, 4];
-    let rows = [planned(trade, &traded, stamped), planned(swap, &[], &[])];
-    expect_rows(&rt, &core, &dear, &all, &rows)?;
-    let dearer = cost_of_one(&rt, rt.alloc(), first, 3)?;
-    let none = [planned(trade, &[], &[]), planned(swap, &[], &[])];
-    expect_rows(&rt, &core, &dearer, &all, &none)?;
-    assert_eq!(&rt; enter(&mut core, &traded)?, 3);
+fn centred(rt: &impl Abort, alloc: Global) -> Result<Core, Fail> {
+    let mut core = core_of(rt, alloc, &CENTRED)?;
+    let dropped = swept(&mut core)?;
+    assert!(rt; dropped == 2);
+    Ok(core)
+}
+
+fn trade() -> Move {
+    Move::Trade {
+        keep: Pair::of(0, 4),
+        other: Pair::of(3, 4),
+        first: Pair::of(1, 4),
+        second: Pair::of(2, 4),
+    }
+}
+
+fn traded() -> [Edit; 4] {
+    [
+        Edit::Keep(Pair::of(0, 4)),
+        Edit::Keep(Pair::of(3, 4)),
+        Edit::Drop(Pair::of(1, 4)),
+        Edit::Drop(Pair::of(2, 4)),
+    ]
+}
+
+fn kept_cost(core: &Core, costs: &Costs) -> Result<u64, Fail> {
     let kept = core.kept()?;
-    assert!(&rt; kept.len() < 10);
-    assert_eq!(&rt; dear.total(kept.as_slice()), 6);
+    if kept.len() >= 10 {
+        return Err(Fail::from("too many pairs"));
+    }
+    Ok(costs.total(kept.as_slice()))
+}
+
+// A trade that saves two is planned. Its plan is a commit that is taken.
+#[test]
+fn a_trade_that_costs_less(rt: HostRuntime) -> Result<(), Fail> {
+    let mut core = centred(&rt, rt.alloc())?;
+    let costs = cost_of_one(rt.alloc(), Pair::of(1, 4), 3)?;
+    let claims = [(0, 1), (1, 0), (2, 0), (3, 2), (4, 2)];
+    expect_plan(
+        &rt,
+        &core,
+        &costs,
+        &[0, 1, 2, 3, 4],
+        trade(),
+        &traded(),
+        &claims,
+    )?;
+    let number = enter(&mut core, &traded())?;
+    assert!(&rt; number == 3);
+    assert!(&rt; kept_cost(&core, &costs)? == 6);
     Ok(())
 }
 
-// A second look at a vertex is handed back, and so is a seventeenth.
 #[test]
-fn looks_that_are_handed_back(rt: HostRuntime) -> Result<(), Fail> {
-    let core = core_of(&rt, rt.alloc(), &GRID)?;
-    let mut region = region_of(core.points(), &core, &[0, 1, 3, 4])?;
-    match region.add(look_at(&core, 4)?) {
-        Ok(()) => return Err(Fail::from("a second look at a vertex was taken")),
-        Err(back) => assert_eq!(&rt; back.star.centre(), 4),
-    }
-    let mut corners = Vec::new(rt.alloc());
-    for k in 0..17i64 {
-        corners.push((k, k * k))?;
-    }
-    let core = core_of(&rt, rt.alloc(), &corners)?;
-    let mut region = Region::make();
-    for v in 0..17 {
-        let taken = region.add(look_at(&core, v)?).is_ok();
-        assert_eq!(&rt; taken, v < 16);
+fn a_trade_that_costs_more(rt: HostRuntime) -> Result<(), Fail> {
+    let core = centred(&rt, rt.alloc())?;
+    let costs = cost_of_one(rt.alloc(), Pair::of(0, 4), 3)?;
+    expect_none(&rt, &core, &costs, &[0, 1, 2, 3, 4], trade())
+}
+
+// One pair alone is left beside the kept one, whatever the costs.
+#[test]
+fn a_swap_that_leaves_a_gap(rt: HostRuntime) -> Result<(), Fail> {
+    let core = centred(&rt, rt.alloc())?;
+    let asked = swap(Pair::of(0, 4), Pair::of(1, 4));
+    for e in [Pair::of(1, 4), Pair::of(0, 4)] {
+        let costs = cost_of_one(rt.alloc(), e, 3)?;
+        expect_none(&rt, &core, &costs, &[0, 1, 2, 3, 4], asked)?;
     }
     Ok(())
 }

@@ -1,0 +1,5 @@
+mod comparing;
+mod drawing;
+mod making;
+mod random;
+mod worked;

@@ -1,0 +1,1 @@
+use Rattle.solver.proofs.sweeping.swept_again.Goals as goal

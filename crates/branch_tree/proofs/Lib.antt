@@ -1,0 +1,3 @@
+mod Paths
+mod Least
+mod Parts

@@ -1,5 +1,2 @@
-// The price rule on certificates that were worked out by hand, and against the plain slow program.
-mod compared;
 mod instances;
-mod plain;
 mod worked;

@@ -25,7 +25,7 @@ fn is_counted_plain(points: &Points, row: Row, i: u32, j: u32) -> bool {
 }
 
 // The load of the pair of i and j.
-fn load_plain(points: &Points, rows: &[Row], i: u32, j: u32) -> i128 {
+pub fn load_plain(points: &Points, rows: &[Row], i: u32, j: u32) -> i128 {
     let mut sum = 0i128;
     for row in rows {
         let weight = i128::from(weight_of(*row));
@@ -85,14 +85,14 @@ fn raise_plain(points: &Points, costs: &Costs, q: u64, rows: &mut Vec<Row>, k: u
 }
 
 // Raises all rows.
-fn raise_all_plain(points: &Points, costs: &Costs, q: u64, rows: &mut Vec<Row>) {
+pub fn raise_all_plain(points: &Points, costs: &Costs, q: u64, rows: &mut Vec<Row>) {
     for k in 0..rows.len() {
         raise_plain(points, costs, q, rows, k);
     }
 }
 
 // The value over the border's cost.
-fn value_plain(q: u64, rows: &[Row]) -> i128 {
+pub fn value_plain(q: u64, rows: &[Row]) -> i128 {
     let mut sum = 0i128;
     for row in rows {
         let share = match *row {

@@ -1,0 +1,7 @@
+mod certificates;
+mod compared;
+mod floors;
+mod instances;
+mod loads;
+mod plain;
+mod starts;

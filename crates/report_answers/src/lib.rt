@@ -1,10 +1,11 @@
 //! What the commands on reports answer: from the bytes of an input to a text, and whether it says yes, no, or refuses the
-//! input. The commands `check` and `part` stand on it.
+//! input. The commands `check`, `part` and `rewind` stand on it.
 #![tactic(auto)]
 
 mod answer;
 mod checked;
 mod lines;
+mod moments;
 mod parts;
 #[cfg(test)]
 mod tests;
@@ -13,3 +14,4 @@ pub use answer::{ReportAnswer, Told};
 pub use checked::check_text;
 pub use parts::part_of_text;
 pub use report_io::Part;
+pub use moments::rewound;

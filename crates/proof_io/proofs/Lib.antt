@@ -1,0 +1,10 @@
+mod Steps
+mod Each
+mod LineCuts
+mod SolutionSteps
+mod TreeSteps
+mod StatedSteps
+mod LaterSteps
+mod NodeLimits
+mod Read
+pub mod Laws

@@ -1,17 +1,18 @@
 -- Pairs at positions of a list, and the first violations among them.
-use Rattle.std.proofs.Common.{◌≡◌, ◌<◌, ◌+◌, below_more, ⊎_elim, ℕ, List, length, slice_index_or, sym, ◌∙◌, subst, arith}
+use Rattle.std.proofs.Common.{◌≡◌, ◌<◌, ◌≤◌, ◌+◌, below_more, ⊎_elim, ℕ, List, length, slice_index_or, sym, ◌∙◌, subst, arith}
 use Rattle.std.proofs.lemmas.Bool.{cases_order}
 use Rattle.std.proofs.lemmas.List.{get_or_default}
 use Rattle.plane.specs.declared.coordinates.Point.{Point}
 use Rattle.plane.specs.declared.segment.Pair.{Pair}
 use Rattle.plane.specs.First.{IsLeast}
-use Rattle.plane.specs.Geometry.{point, IsBetween, IsClear, AreCrossing}
+use Rattle.plane.specs.Geometry.{point, IsBetween, AreCrossing}
 use Rattle.partition_defs.specs.Partition.{ArePlane}
 use Rattle.partition_defs.specs.Triangulation.{AreDistinct}
 use Rattle.plane.proofs.laws.Area.{area_first}
 use Rattle.crossings.specs.Crossings.{IsPairAt, DoCrossAt}
 use Rattle.crossings.proofs.laws.Ends.{stands_same}
-use Rattle.cp_judge.specs.Violation.{IsRepeatedAt, IsNotClear, IsCrossing}
+use Rattle.cp_judge.specs.Pieces.{HasNoneFrom, IsLeastFrom, IsDoubledIn, IsNotClearIn, CrossesSome, IsCrossingIn}
+use Rattle.cp_judge.specs.Violation.{IsRepeatedAt, IsUnclearAt}
 use Rattle.plane.proofs.laws.Opposite.{not_opposite_zero}
 
 pub stands : (K : List Pair) (k : ℕ) (d : Pair) → k < length K → IsPairAt K k (slice_index_or K k d)
@@ -22,18 +23,28 @@ distinct_from K none i j d l m e =
     let li : i < length K = omega arith in
     none j m (slice_index_or K j d, i, l, (li, get_or_default K i (slice_index_or K j d) d li ∙ e), stands K j d m)
 
-pub not_clear_found : (S : List Point) (K : List Pair) (k : ℕ) (e : Pair) (p : ℕ) → IsPairAt K k e
-    → IsLeast (λ q. IsBetween S q e.lo e.hi) (length S) p
-    → ((j : ℕ) (f : Pair) → j < k → slice_index_or K j f ≡ f → IsClear S f.lo f.hi) → IsNotClear S K e p
-not_clear_found S K k e p st least before =
-    (k, st, record { within = st.0; holds = (e, p, st, least.within, least.holds); before = λ j m u. before j u.0 m u.2.1 u.1 u.3 u.4 }, least)
+-- one number more without the property
+pub more_from : (P : ℕ → Type 0) (a n : ℕ) → HasNoneFrom P a n → ¬ P n → HasNoneFrom P a (n + 1)
+more_from P a n none here k f l = below_more (λ k. a ≤ k → ¬ P k) n (λ k m g. none k g m) (λ _. here) k l f
 
--- one more clear pair
-pub clear_more : (S : List Point) (K : List Pair) (i : ℕ) (e : Pair) → IsPairAt K i e → IsClear S e.lo e.hi
-    → ((k : ℕ) (f : Pair) → k < i → slice_index_or K k f ≡ f → IsClear S f.lo f.hi) → (k : ℕ) (f : Pair) → k < i + 1 → slice_index_or K k f ≡ f → IsClear S f.lo f.hi
-clear_more S K i e st clear before k f l is =
-    below_more (λ (k : ℕ). (f : Pair) → slice_index_or K k f ≡ f → IsClear S f.lo f.hi) i (λ k m f is. before k f m is)
-    (λ f is. let P : Pair → Type 0 = λ x. IsClear S x.lo x.hi in subst P (stands_same K i e f st (st.0, is)) clear) k l f is
+-- in a list with no pair twice none is repeated
+pub none_repeated : (K : List Pair) (a b : ℕ) → AreDistinct K → HasNoneFrom (IsRepeatedAt K) a b
+none_repeated K a b distinct k f l u = distinct u.1 k u.0 u.2 u.4.0 (u.3.1 ∙ sym u.4.1)
+
+pub doubled_found : (K : List Pair) (a b k : ℕ) (e : Pair) → a ≤ k → k < b → IsPairAt K k e → IsRepeatedAt K k
+    → HasNoneFrom (IsRepeatedAt K) a k → IsDoubledIn K a b e
+doubled_found K a b k e f l st at before = (k, st, record { from = f; within = l; holds = at; before = before })
+
+pub not_clear_found : (S : List Point) (K : List Pair) (a b k : ℕ) (e : Pair) (p : ℕ) → a ≤ k → k < b → IsPairAt K k e
+    → IsLeast (λ q. IsBetween S q e.lo e.hi) (length S) p → HasNoneFrom (IsUnclearAt S K) a k → IsNotClearIn S K a b e p
+not_clear_found S K a b k e p f l st least before =
+    (k, st, record { from = f; within = l; holds = (e, p, st, least.within, least.holds); before = before }, least)
+
+-- a pair without a point between its ends is clear
+pub not_unclear : (S : List Point) (K : List Pair) (k : ℕ) (e : Pair) → IsPairAt K k e
+    → ((p : ℕ) → p < length S → ¬ IsBetween S p e.lo e.hi) → ¬ IsUnclearAt S K k
+not_unclear S K k e st none (f, p, sf, l, between) =
+    let P : Pair → Type 0 = λ x. IsBetween S p x.lo x.hi in none p l (subst P (stands_same K k f e sf st) between)
 
 pub crosses_itself : (S : List Point) (a b : ℕ) → ¬ AreCrossing S a b a b
 crosses_itself S a b h = not_opposite_zero _ _ (area_first (point S a) (point S b)) h.0
@@ -53,22 +64,14 @@ plane_from S K none e f he hf h =
     (λ l. none hf.0 he.0 l he.1 (f, e, (hf.1, hf.2), (he.1, he.2), (h.1, h.0))) u)
     (cases_order he.0 hf.0)
 
-pub crossing_found : (S : List Point) (K : List Pair) (a b : ℕ) (e f : Pair) → IsPairAt K a e → IsPairAt K b f
-    → a < b → DoCrossAt S K a b
-    → ((k m : ℕ) → k < a → k < m → m < length K → ¬ DoCrossAt S K k m)
-    → ((m : ℕ) → a < m → m < b → ¬ DoCrossAt S K a m) → IsCrossing S K e f
-crossing_found S K a b e f se sf l h before after = (
-  a,
-  b,
+pub crossing_found : (S : List Point) (K : List Pair) (a b k m : ℕ) (e f : Pair) → a ≤ k → k < b → IsPairAt K k e → IsPairAt K m f
+    → k < m → DoCrossAt S K k m → HasNoneFrom (CrossesSome S K) a k
+    → ((j : ℕ) → k < j → j < m → ¬ DoCrossAt S K k j) → IsCrossingIn S K a b e f
+crossing_found S K a b k m e f from l se sf o h before after = (
+  k,
+  m,
   se,
   sf,
-  record {
-    ordered = l;
-    within = sf.0;
-    holds = h;
-    before = λ k m o n c. ⊎_elim (λ lk. before k m lk o n)
-        (λ u. let P : ℕ → Type 0 = λ x. ¬ DoCrossAt S K x m in
-        let Q : ℕ → Type 0 = λ x. x < m in
-        subst P (sym u.0) (after m (subst Q u.0 o) u.1)) c;
-  },
+  record { from = from; within = l; holds = (m, o, sf.0, h); before = before },
+  record { from = omega arith; within = sf.0; holds = h; before = λ j g n. after j (omega arith) n },
 )

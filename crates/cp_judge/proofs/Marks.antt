@@ -1,5 +1,5 @@
 -- Marks of the points for which a need is met.
-use Rattle.std.proofs.Common.{◌≡◌, ◌≢◌, ◌<◌, ◌≤◌, ◌+◌, ◌⊎◌, ⊎_elim, inl, inr, ℕ, Bool, true, false, IsTrue, List, length, sym, ◌∙◌, subst, refl, arith, ◌↔◌, Option, Some, None, MatchOption}
+use Rattle.std.proofs.Common.{◌≡◌, ◌≢◌, ◌<◌, ◌≤◌, ◌+◌, ◌⊎◌, below_more, ⊎_elim, inl, inr, ℕ, Bool, true, false, IsTrue, List, length, sym, ◌∙◌, subst, refl, arith, ◌↔◌, Option, Some, None, MatchOption}
 use Rattle.std.proofs.lemmas.Bool.{false≢true}
 use Rattle.std.proofs.Math.Nat.{eq-or-lt_of_le}
 use Rattle.plane.specs.declared.coordinates.Point.{Point}
@@ -10,7 +10,8 @@ use Rattle.partition_defs.specs.Partition.{HasEnds, AreWithin, IsMet, MeetsNeeds
 use Rattle.cp_judge.specs.Ends.{IsOtherEnd}
 use Rattle.cp_judge.specs.Searching.{IsInNeedOfAnother, IsMetBy, IsMetBefore, mark, AddsMarks}
 use Rattle.crossings.specs.Crossings.{IsPairAt}
-use Rattle.cp_judge.specs.Violation.{IsUnmetAt, IsUnmet}
+use Rattle.cp_judge.specs.Pieces.{MeetsNeedsIn, IsUnmetIn}
+use Rattle.cp_judge.specs.Violation.{IsUnmetAt}
 use Rattle.crossings.proofs.laws.Ends.{stands_same}
 use Rattle.std.proofs.lemmas.Bool.{false_from_ne_true}
 use Rattle.partition_defs.proofs.laws.Joined.{other_within}
@@ -93,13 +94,18 @@ pub unmet_inner : (S : List Point) (K : List Pair) (p : ℕ) (o : Option ℕ) �
 unmet_inner S K p None inner met = λ _. met
 unmet_inner S K p (Some q) inner least = (inner, least)
 
-pub unmet_found : (S : List Point) (K : List Pair) (p q : ℕ) → p < length S → IsInner S p → IsLeast (IsUnmetAt S K p) (length S) q
-    → ((j : ℕ) → j < p → IsInner S j → MeetsNeedsAt S K j) → IsUnmet S K p q
-unmet_found S K p q l inner least before = (
+pub unmet_found : (S : List Point) (K : List Pair) (a b p q : ℕ) → a ≤ p → p < b → IsInner S p → IsLeast (IsUnmetAt S K p) (length S) q
+    → MeetsNeedsIn S K a p → IsUnmetIn S K a b p q
+unmet_found S K a b p q f l inner least before = (
   record {
+    from = f;
     within = l;
     holds = (inner, (q, least.within, least.holds));
-    before = λ j m u. let w = u.1 in w.2.1 (before j m u.0 w.0 w.1 w.2.0);
+    before = λ j g m u. let w = u.1 in w.2.1 (before j g m u.0 w.0 w.1 w.2.0);
   },
   least,
 )
+
+pub needs_more : (S : List Point) (K : List Pair) (a p : ℕ) → MeetsNeedsIn S K a p → (IsInner S p → MeetsNeedsAt S K p) → MeetsNeedsIn S K a (p + 1)
+needs_more S K a p before here j f l =
+    below_more (λ j. a ≤ j → IsInner S j → MeetsNeedsAt S K j) p (λ j m g. before j g m) (λ _. here) j l f

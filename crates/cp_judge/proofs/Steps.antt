@@ -11,6 +11,7 @@ use Rattle.plane.specs.Geometry.{IsBorderPair}
 use Rattle.plane.specs.Hull.{IsBorderStep}
 use Rattle.plane.proofs.laws.Border.{border_of_left, clear_back, border_back}
 use Rattle.partition_defs.specs.Partition.{Joins, HasBorder}
+use Rattle.cp_judge.specs.Pieces.{HasStepsIn, IsMissingIn}
 use Rattle.cp_judge.specs.Searching.{IsMissingStep, IsMissingBelow, IsLesser}
 use Rattle.cp_judge.specs.Violation.{IsMissing, IsMissingBorder}
 use Rattle.partition_defs.proofs.laws.Joined.{join_back}
@@ -64,17 +65,18 @@ not_both k l i j (inr a) (inr b) = let c = a.1 in let d = b.1 in omega arith
 below_or_last : (v n : ℕ) → v < n + 1 → (v ≡ n) ⊎ (v < n)
 below_or_last v n l = let m : v ≤ n = omega arith in eq-or-lt_of_le m
 
-none_below : (S : List Point) (K : List Pair) (n : ℕ) (a : Option Pair) → IsMissingBelow S K n a → a ≡ None → (v w : ℕ) → v < n → IsBorderStep S Left v w → Joins K v w
-none_below S K n a h e = let P : Option Pair → Type 0 = λ o. IsMissingBelow S K n o in subst P e h
+none_below : (S : List Point) (K : List Pair) (m n : ℕ) (a : Option Pair) → IsMissingBelow S K m n a → a ≡ None → HasStepsIn S K m n
+none_below S K m n a h e = let P : Option Pair → Type 0 = λ o. IsMissingBelow S K m n o in subst P e h
 
 none_step : (S : List Point) (K : List Pair) (n : ℕ) (b : Option Pair) → IsMissingStep S K n b → b ≡ None → (w : ℕ) → IsBorderStep S Left n w → Joins K n w
 none_step S K n b h e = let P : Option Pair → Type 0 = λ o. IsMissingStep S K n o in subst P e h
 
-not_before_below : (S : List Point) (K : List Pair) (n v w : ℕ) (a : Option Pair) (e : Pair) → IsMissingBelow S K n a
-    → ((f : Pair) → a ≡ Some f → ¬ ComesBefore f.lo f.hi e.lo e.hi) → v < n → IsBorderStep S Left v w → ¬ Joins K v w
+not_before_below : (S : List Point) (K : List Pair) (m n v w : ℕ) (a : Option Pair) (e : Pair) → IsMissingBelow S K m n a
+    → ((f : Pair) → a ≡ Some f → ¬ ComesBefore f.lo f.hi e.lo e.hi) → m ≤ v → v < n → IsBorderStep S Left v w → ¬ Joins K v w
     → ¬ ComesBefore (min v w) (max v w) e.lo e.hi
-not_before_below S K n v w None e h g l step absent = absurd (absent (h v w l step))
-not_before_below S K n v w (Some f) e h g l step absent = later_through (min v w) (max v w) f.lo f.hi e.lo e.hi (h.2 v w l step absent) (g f refl)
+not_before_below S K m n v w None e h g f l step absent = absurd (absent (h v w f l step))
+not_before_below S K m n v w (Some d) e h g f l step absent =
+    later_through (min v w) (max v w) d.lo d.hi e.lo e.hi (h.before v w f l step absent) (g d refl)
 
 not_before_step : (S : List Point) (K : List Pair) (n w : ℕ) (b : Option Pair) (e : Pair) → IsMissingStep S K n b
     → ((f : Pair) → b ≡ Some f → ¬ ComesBefore f.lo f.hi e.lo e.hi) → IsBorderStep S Left n w → ¬ Joins K n w
@@ -86,29 +88,30 @@ not_before_step S K n w (Some f) e h g step absent =
     let Q : ℕ → Type 0 = λ y. ComesBefore f.lo y e.lo e.hi in
     λ c. g f refl (subst Q (sym s.1) (subst P (sym s.0) c))
 
-pub missing_more : (S : List Point) (K : List Pair) (n : ℕ) (a b o : Option Pair) → IsMissingBelow S K n a → IsMissingStep S K n b → IsLesser a b o
-    → IsMissingBelow S K (n + 1) o
-missing_more S K n a b None ha hb h = λ v w l step.
+pub missing_more : (S : List Point) (K : List Pair) (m n : ℕ) (a b o : Option Pair) → IsMissingBelow S K m n a → IsMissingStep S K n b → IsLesser a b o
+    → IsMissingBelow S K m (n + 1) o
+missing_more S K m n a b None ha hb h = λ v w f l step.
     ⊎_elim
     (λ s. let P : ℕ → Type 0 = λ x. IsBorderStep S Left x w in
     let Q : ℕ → Type 0 = λ x. Joins K x w in
     subst Q (sym s) (none_step S K n b hb h.1 w (subst P s step)))
-    (λ m. none_below S K n a ha h.0 v w m step) (below_or_last v n l)
-missing_more S K n a b (Some e) ha hb h =
-    let A : Option Pair → Type 0 = λ o. IsMissingBelow S K n o in
+    (λ u. none_below S K m n a ha h.0 v w f u step) (below_or_last v n l)
+missing_more S K m n a b (Some e) ha hb h =
+    let A : Option Pair → Type 0 = λ o. IsMissingBelow S K m n o in
     let B : Option Pair → Type 0 = λ o. IsMissingStep S K n o in
     let here : (e.hi < length S) × IsMissing S K e.lo e.hi =
-    ⊎_elim (λ s. let u = subst A s ha in (u.0, u.1)) (λ s. let u = subst B s hb in (u.0, u.1)) h.0 in (
-      here.0,
-      here.1,
-      λ v w l step absent.
+    ⊎_elim (λ s. let u = subst A s ha in (u.within, u.missing)) (λ s. let u = subst B s hb in (u.0, u.1)) h.0 in
+    record {
+      within = here.0;
+      missing = here.1;
+      before = λ v w f l step absent.
           ⊎_elim
           (λ s. let P : ℕ → Type 0 = λ x. IsBorderStep S Left x w in
           let N : ℕ → Type 0 = λ x. ¬ Joins K x w in
           let R : ℕ → Type 0 = λ x. ¬ ComesBefore (min x w) (max x w) e.lo e.hi in
           subst R (sym s) (not_before_step S K n w b e hb (λ f t. h.1 f (inr t)) (subst P s step) (subst N s absent)))
-          (λ m. not_before_below S K n v w a e ha (λ f t. h.1 f (inl t)) m step absent) (below_or_last v n l),
-    )
+          (λ u. not_before_below S K m n v w a e ha (λ f t. h.1 f (inl t)) f u step absent) (below_or_last v n l);
+    }
 
 step_from : (S : List Point) (i j : ℕ) → i < j → j < length S → IsBorderPair S i j → IsBorderStep S Left i j ⊎ IsBorderStep S Left j i
 step_from S i j l m pair =
@@ -123,23 +126,33 @@ before_ends v w k l m n a b c =
     let Q : ℕ → Type 0 = λ y. ComesBefore (min v w) y m n in
     subst Q b (subst P a c)
 
-pub missing_found : (S : List Point) (K : List Pair) (n : ℕ) (o : Option Pair) → length S ≤ n → IsMissingBelow S K n o
-    → MatchOption o (HasBorder S K) (IsMissingBorder S K)
-missing_found S K n None whole h = λ i j l m pair.
-    let hi : i < n = omega arith in
-    let hj : j < n = omega arith in
-    ⊎_elim (λ step. h i j hi step) (λ step. join_back K j i (h j i hj step)) (step_from S i j l m pair)
-missing_found S K n (Some e) whole h = record {
+-- where the border pairs are in the set, so are those of steps
+pub steps_of_border : (S : List Point) (K : List Pair) (a b : ℕ) → b ≤ length S → HasBorder S K → HasStepsIn S K a b
+steps_of_border S K a b few border v w f l step =
+    let pair = border_of_left S v w step in
+    ⊎_elim (λ o. border v w o step.within pair)
+    (λ o. let p : w < v = ⊎_elim (λ e. absurd (step.apart e)) (λ u. u) (eq-or-lt_of_le o) in
+    join_back K w v (border w v p (omega arith) (border_back S v w pair)))
+    (cases_lt v w)
+
+-- where those of all steps are in the set, all border pairs are
+pub border_of_steps : (S : List Point) (K : List Pair) → HasStepsIn S K 0 (length S) → HasBorder S K
+border_of_steps S K h i j l m pair =
+    let hi : i < length S = omega arith in
+    ⊎_elim (λ step. h i j (omega arith) hi step) (λ step. join_back K j i (h j i (omega arith) m step)) (step_from S i j l m pair)
+
+-- the least among all steps is the least border pair
+pub least_of_steps : (S : List Point) (K : List Pair) (e : Pair) → IsMissingIn S K 0 (length S) e → IsMissingBorder S K e
+least_of_steps S K e h = record {
   ordered = e.ordered;
-  within = h.0;
-  holds = h.1;
+  within = h.within;
+  holds = h.missing;
   before = λ k l o m c u.
-      let hk : k < n = omega arith in
-      let hl : l < n = omega arith in
+      let hk : k < length S = omega arith in
       let a : k ≡ min k l = omega arith in
       let b : l ≡ max k l = omega arith in
       let a' : k ≡ min l k = omega arith in
       let b' : l ≡ max l k = omega arith in
-      ⊎_elim (λ step. h.2 k l hk step u.1 (before_ends k l k l e.lo e.hi a b c))
-      (λ step. h.2 l k hl step (λ t. u.1 (join_back K l k t)) (before_ends l k k l e.lo e.hi a' b' c)) (step_from S k l o m u.0);
+      ⊎_elim (λ step. h.before k l (omega arith) hk step u.1 (before_ends k l k l e.lo e.hi a b c))
+      (λ step. h.before l k (omega arith) m step (λ t. u.1 (join_back K l k t)) (before_ends l k k l e.lo e.hi a' b' c)) (step_from S k l o m u.0);
 }

@@ -7,3 +7,5 @@ pub mod Judgement
 pub mod Blocks
 pub mod Turning
 pub mod Chains
+pub mod Pieces
+pub mod Joining

@@ -9,6 +9,7 @@ use Rattle.plane.specs.Hull.{IsBorderStep}
 use Rattle.plane.specs.Geometry.{IsInNeed}
 use Rattle.partition_defs.specs.Partition.{HasEnds, Joins}
 use Rattle.crossings.specs.Crossings.{IsPairAt}
+use Rattle.cp_judge.specs.Pieces.{HasStepsIn, IsMissingIn}
 use Rattle.cp_judge.specs.Violation.{IsMissing}
 
 -- k is the least number from after a to below n with P, or none where no such number has it
@@ -23,12 +24,9 @@ IsMissingStep S K v o =
     (λ e. (e.hi < length S) × IsMissing S K e.lo e.hi
     × ((w : ℕ) → IsBorderStep S Left v w → (e.lo ≡ min v w) × (e.hi ≡ max v w)))
 
--- o is the least pair of the steps from the points below n that isn't in the set, or none
-abbrev pub IsMissingBelow : List Point → List Pair → ℕ → Option Pair → Type 0
-IsMissingBelow S K n o =
-    MatchOption o ((v w : ℕ) → v < n → IsBorderStep S Left v w → Joins K v w)
-    (λ e. (e.hi < length S) × IsMissing S K e.lo e.hi
-    × ((v w : ℕ) → v < n → IsBorderStep S Left v w → ¬ Joins K v w → ¬ ComesBefore (min v w) (max v w) e.lo e.hi))
+-- o is the least pair of the steps from the points from a on and below n that isn't in the set, or none
+abbrev pub IsMissingBelow : List Point → List Pair → (a n : ℕ) → Option Pair → Type 0
+IsMissingBelow S K a n o = MatchOption o (HasStepsIn S K a n) (IsMissingIn S K a n)
 
 -- o is the lesser one of a and b
 abbrev pub IsLesser : (a b o : Option Pair) → Type 0

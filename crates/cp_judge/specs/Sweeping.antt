@@ -16,10 +16,6 @@ AreByLeft Z = (i j : ℕ) → i ≤ j → j < length Z → (segment Z i).from.x 
 abbrev pub IsBelow : (z w : Segment) → Type 0
 IsBelow z w = int_max z.from.y z.to.y ≤ℤ int_min w.from.y w.to.y
 
--- n is at most the places of z and w where the pairs there cross
-abbrev pub IsUpToCrossing : List Point → List Pair → ℕ → (z w : Segment) → Type 0
-IsUpToCrossing S K n z w = DoCrossAt S K z.place w.place → (n ≤ z.place) × (n ≤ w.place)
-
--- no pair before position n crosses a later one
-abbrev pub CrossNoneBefore : List Point → List Pair → ℕ → Type 0
-CrossNoneBefore S K n = (k m : ℕ) → k < n → k < m → m < length K → ¬ DoCrossAt S K k m
+-- where the pairs at the places of z and w cross and both stand from a on, n is at most these places
+abbrev pub IsUpToCrossing : List Point → List Pair → (a n : ℕ) → (z w : Segment) → Type 0
+IsUpToCrossing S K a n z w = DoCrossAt S K z.place w.place → a ≤ z.place → a ≤ w.place → (n ≤ z.place) × (n ≤ w.place)

@@ -2,10 +2,9 @@
 // counterclockwise, so one walk over the points meets them all.
 ghost use Rattle.std.specs.Prelude.{◌≡◌, ◌<◌, ◌≤◌, ◌↔◌, ◌⊎◌, length, IsTrue, MatchOption};
 ghost use Rattle.plane.specs.First.{ComesBefore};
-ghost use Rattle.partition_defs.specs.Partition.{HasBorder};
 ghost use Rattle.cp_judge.specs.Chains.{AreOnBorder};
+ghost use Rattle.cp_judge.specs.Pieces.{HasStepsIn, IsMissingIn};
 ghost use Rattle.cp_judge.specs.Searching.{IsMissingStep, IsLesser};
-ghost use Rattle.cp_judge.specs.Violation.{IsMissingBorder};
 
 use crate::outline::has_border;
 use partition_defs::joins;
@@ -18,8 +17,8 @@ fn comes_before(e: Pair, f: Pair) -> bool
     e.lo() < f.lo() || (e.lo() == f.lo() && e.hi() < f.hi())
 }
 
-// The lesser one of two pairs.
-fn earlier(e: Pair, f: Pair) -> Pair
+/// The lesser one of two pairs.
+pub fn earlier(e: Pair, f: Pair) -> Pair
     ensures one { (result ≡ e) ⊎ (result ≡ f) }
     ensures first { ¬ ComesBefore e.lo e.hi result.lo result.hi }
     ensures second { ¬ ComesBefore f.lo f.hi result.lo result.hi }
@@ -56,26 +55,37 @@ fn missing_step(points: &Points, list: &[Pair], v: u32) -> Option<Pair>
     }
 }
 
-/// The least border pair that isn't in the list, or none. It marks points of the border.
-pub fn first_missing_border(points: &Points, list: &[Pair], marks: &mut [bool]) -> Option<Pair>
+/// The least border pair of the steps from the points from `first` on and below `last` that isn't in the list, or none. It
+/// marks points of the border.
+pub fn first_missing_border(
+    points: &Points,
+    list: &[Pair],
+    marks: &mut [bool],
+    first: u32,
+    last: u32,
+) -> Option<Pair>
     requires room { length points.now ≤ length marks.old }
     requires marks { AreOnBorder points.now marks.old }
-    ensures missing { MatchOption result (HasBorder points.now list.now) (IsMissingBorder points.now list.now) }
+    requires order { first ≤ last }
+    requires last { last ≤ length points.now }
+    ensures missing { MatchOption result (HasStepsIn points.now list.now first last) (IsMissingIn points.now list.now first last) }
     ensures marks { AreOnBorder points.now marks.new }
 {
     if has_border(points, list, marks) {
         None
     } else {
-        least_missing_border(points, list)
+        least_missing_border(points, list, first, last)
     }
 }
 
-// The least border pair that isn't in the list, or none, by the step from each point.
-fn least_missing_border(points: &Points, list: &[Pair]) -> Option<Pair>
-    ensures { MatchOption result (HasBorder points.now list.now) (IsMissingBorder points.now list.now) }
+// The least border pair that isn't in the list, or none, by the step from each of these points.
+fn least_missing_border(points: &Points, list: &[Pair], first: u32, last: u32) -> Option<Pair>
+    requires order { first ≤ last }
+    requires last { last ≤ length points.now }
+    ensures { MatchOption result (HasStepsIn points.now list.now first last) (IsMissingIn points.now list.now first last) }
 {
     let mut least = None;
-    for v in 0..points.len() {
+    for v in first..last {
         least = lesser(least, missing_step(points, list, v));
     }
     least

@@ -1,7 +1,8 @@
 // Pairs that stand twice.
-ghost use Rattle.std.specs.Prelude.{◌<◌, ◌↔◌, length, IsTrue, MatchOption};
+ghost use Rattle.std.specs.Prelude.{◌<◌, ◌≤◌, ◌↔◌, length, IsTrue, MatchOption};
 ghost use Rattle.partition_defs.specs.Triangulation.{AreDistinct};
-ghost use Rattle.cp_judge.specs.Violation.{IsRepeatedAt, IsDoubled};
+ghost use Rattle.cp_judge.specs.Pieces.{HasNoneFrom, IsDoubledIn};
+ghost use Rattle.cp_judge.specs.Violation.{IsRepeatedAt};
 ghost use Rattle.cp_judge.specs.Ascending.{RisesByNeighbours};
 
 use crate::MOST_ORDERED;
@@ -42,16 +43,18 @@ fn ascends_when_sorted(list: &[Pair]) -> bool
     is_ascending(sorted)
 }
 
-/// The first pair of the list that stood in it before, or none.
-pub fn first_doubled(list: &[Pair]) -> Option<Pair>
-    ensures { MatchOption result (AreDistinct list.now) (IsDoubled list.now) }
+/// The first pair among those at the positions from `start` on and below `end` that stood in the list before, or none.
+pub fn first_doubled(list: &[Pair], start: u32, end: u32) -> Option<Pair>
+    requires order { start ≤ end }
+    requires within { end ≤ length list.now }
+    ensures { MatchOption result (HasNoneFrom (IsRepeatedAt list.now) start end) (IsDoubledIn list.now start end) }
 {
     if is_ascending(list) || ascends_when_sorted(list) {
         return None;
     }
-    for k in 0..list.len() {
-        if is_repeated(list, k) {
-            return Some(list[k]);
+    for k in start..end {
+        if is_repeated(list, k as usize) {
+            return Some(list[k as usize]);
         }
     }
     None

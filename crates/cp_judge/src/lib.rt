@@ -15,46 +15,19 @@ mod clear;
 mod crossing;
 mod doubled;
 mod ends;
+mod joining;
 mod needs;
 mod outline;
+mod piece;
 mod turning;
 
 pub use answer::Judgement;
-use border::first_missing_border;
-use clear::first_not_clear;
-use crossing::first_crossing;
-use doubled::first_doubled;
-use needs::first_unmet;
-use plane::{MOST_POINTS, Pair, Points};
+pub use joining::earlier_of;
+pub use piece::{Piece, first_in};
+use plane::{Pair, Points};
 
 // The most pairs that are put in order on the stack; a longer list is compared pair by pair.
 const MOST_ORDERED: usize = 20_000;
-
-// The first violation, or that there is none.
-fn first_violation(points: &Points, list: &[Pair]) -> Judgement
-    requires within { AreWithin points.now list.now }
-    requires fewer { length list.now < 2 ^ 32 }
-    ensures { IsJudgement points.now list.now result }
-{
-    if let Some(e) = first_doubled(list) {
-        return Judgement::Doubled(e);
-    }
-    if let Some((e, p)) = first_not_clear(points, list) {
-        return Judgement::NotClear(e, p);
-    }
-    if let Some((e, f)) = first_crossing(points, list) {
-        return Judgement::Crossing(e, f);
-    }
-    let _count = points.len();
-    let mut marks = [false; MOST_POINTS];
-    if let Some(e) = first_missing_border(points, list, &mut marks) {
-        return Judgement::MissingBorder(e);
-    }
-    if let Some((p, q)) = first_unmet(points, list, &marks) {
-        return Judgement::Unmet(p, q);
-    }
-    Judgement::Convex(list.len() as u32)
-}
 
 /// The judgement on a list of segments: the first violation in the order of the variants of `Judgement`, or `Convex`
 /// exactly where the list has no pair twice and its set is a convex partition. Each variant shows the first case of its
@@ -67,7 +40,11 @@ pub fn judge(points: &Points, list: &[Pair]) -> Judgement
     ensures only { (j : Judgement) → IsJudgement points.now list.now j → j ≡ result }
     ensures convex { (result ≡ Judgement.Convex (length list.now)) ↔ (AreDistinct list.now × IsConvexPartition points.now list.now) }
 {
-    first_violation(points, list)
+    let whole = Piece::whole(points, list);
+    match first_in(points, list, whole) {
+        Some(violation) => violation,
+        None => Judgement::Convex(list.len() as u32),
+    }
 }
 
 #[cfg(test)]

@@ -4,12 +4,13 @@ ghost use Rattle.std.specs.Prelude.{◌≡◌, ◌≢◌, ◌<◌, ◌≤◌, �
 ghost use Rattle.plane.specs.First.{IsLeast, IsLeastOrNone};
 ghost use Rattle.plane.specs.Geometry.{IsInner};
 ghost use Rattle.std.specs.List.{All};
-ghost use Rattle.partition_defs.specs.Partition.{Joins, AreWithin, MeetsNeedsAt, MeetsNeeds};
+ghost use Rattle.partition_defs.specs.Partition.{Joins, AreWithin, MeetsNeedsAt};
 ghost use Rattle.cp_judge.specs.Chains.{AreOnBorder};
 ghost use Rattle.cp_judge.specs.Ends.{AreOthers, IsMetAmong, MeetsNeedsAmong, IsUnmetAmong};
 ghost use Rattle.cp_judge.specs.Turning.{AreEndsOf};
 ghost use Rattle.cp_judge.specs.Searching.{IsInNeedOfAnother, IsMetBy, IsMetBefore, mark, AddsMarks};
-ghost use Rattle.cp_judge.specs.Violation.{IsUnmetAt, IsUnmet};
+ghost use Rattle.cp_judge.specs.Pieces.{MeetsNeedsIn, IsUnmetIn};
+ghost use Rattle.cp_judge.specs.Violation.{IsUnmetAt};
 
 use crate::MOST_ORDERED;
 use crate::ends::{gather_ends, other_end};
@@ -147,17 +148,28 @@ fn first_unmet_of(
     }
 }
 
-/// The least inner point with a need that isn't met, and the least point for which it isn't, or none.
-pub fn first_unmet(points: &Points, list: &[Pair], marks: &[bool]) -> Option<(u32, u32)>
+/// The least inner point from `first` on and below `last` with a need that isn't met, and the least point for which it isn't,
+/// or none.
+pub fn first_unmet(
+    points: &Points,
+    list: &[Pair],
+    marks: &[bool],
+    first: u32,
+    last: u32,
+) -> Option<(u32, u32)>
     requires within { AreWithin points.now list.now }
     requires room { length points.now ≤ length marks.now }
     requires marks { AreOnBorder points.now marks.now }
-    ensures { MatchOption result (MeetsNeeds points.now list.now) (λ v. IsUnmet points.now list.now v.0 v.1) }
+    requires order { first ≤ last }
+    requires last { last ≤ length points.now }
+    ensures { MatchOption result (MeetsNeedsIn points.now list.now first last)
+        (λ v. IsUnmetIn points.now list.now first last v.0 v.1) }
 {
     if list.len() > MOST_ORDERED {
-        return first_unmet_from(points, list, marks, &[]);
+        return first_unmet_from(points, list, marks, &[], first, last);
     }
-    first_unmet_within(points, list, marks, &mut [End { at: 0, to: 0 }; MOST_ENDS])
+    let room = &mut [End { at: 0, to: 0 }; MOST_ENDS];
+    first_unmet_within(points, list, marks, room, first, last)
 }
 
 // The same, with room for the ends.
@@ -166,17 +178,22 @@ fn first_unmet_within(
     list: &[Pair],
     marks: &[bool],
     room: &mut [End],
+    first: u32,
+    last: u32,
 ) -> Option<(u32, u32)>
     requires within { AreWithin points.now list.now }
     requires few { length list.now < 2 ^ 32 }
     requires marked { length points.now ≤ length marks.now }
     requires marks { AreOnBorder points.now marks.now }
     requires room { 2 * length list.now ≤ length room.old }
-    ensures { MatchOption result (MeetsNeeds points.now list.now) (λ v. IsUnmet points.now list.now v.0 v.1) }
+    requires order { first ≤ last }
+    requires last { last ≤ length points.now }
+    ensures { MatchOption result (MeetsNeedsIn points.now list.now first last)
+        (λ v. IsUnmetIn points.now list.now first last v.0 v.1) }
 {
     let ends = &mut room[..2 * list.len()];
     set_ends(points, list, ends);
-    first_unmet_from(points, list, marks, ends)
+    first_unmet_from(points, list, marks, ends, first, last)
 }
 
 // The same, with ends of the segments that are mostly in turning order round each point in its turn.
@@ -185,16 +202,21 @@ fn first_unmet_from(
     list: &[Pair],
     marks: &[bool],
     ends: &[End],
+    first: u32,
+    last: u32,
 ) -> Option<(u32, u32)>
     requires within { AreWithin points.now list.now }
     requires marked { length points.now ≤ length marks.now }
     requires marks { AreOnBorder points.now marks.now }
     requires ends { AreEndsOf list.now ends.now }
-    ensures { MatchOption result (MeetsNeeds points.now list.now) (λ v. IsUnmet points.now list.now v.0 v.1) }
+    requires order { first ≤ last }
+    requires last { last ≤ length points.now }
+    ensures { MatchOption result (MeetsNeedsIn points.now list.now first last)
+        (λ v. IsUnmetIn points.now list.now first last v.0 v.1) }
 {
     let mut run = ArrayVec::new();
-    let mut from = 0;
-    for p in 0..points.len() {
+    let mut from = ends.partition_point(|e| e.at < first);
+    for p in first..last {
         from = next_run(ends, from, p, &mut run);
         if let Some(q) = first_unmet_beside(points, list, marks, p, &mut run) {
             return Some((p, q));

@@ -1,6 +1,6 @@
 use Rattle.std.proofs.Common.{arith}
 use Rattle.cp_judge.proofs.Outlined.{none_marked}
-use Rattle.cp_judge.proofs.first_violation.Goals as goal
+use Rattle.cp_judge.proofs.piece.first_in.Goals as goal
 
 pub first_missing_border-requires-clause-room : goal.first_missing_border-requires-clause-room
 first_missing_border-requires-clause-room c = c.len-count.ensures.accepted.count.1

@@ -1,0 +1,5 @@
+mod hostile;
+mod making;
+mod many;
+mod threads;
+mod worked;

@@ -79,7 +79,7 @@ gen_solve_same words k l n m s t (e, low, high, small) (f, low', high', small') 
     made_same (λ x y z. GenSolve x y z) (codes "gen-solve") k l n m s t high high' small small' (sym e ∙ f)
 
 solve_same : (words : List (List ℕ)) (e e' b b' r r' s s' : ℕ) → IsLineOf words (Solve e b r s) → IsLineOf words (Solve e' b' r' s') → ◌≡◌ {A = Command} (Solve e b r s) (Solve e' b' r' s')
-solve_same words e e' b b' r r' s s' (x, edit, bound, rounds, none, small) (y, edit', bound', rounds', none', small') =
+solve_same words e e' b b' r r' s s' (x, edit, bound, rounds, small) (y, edit', bound', rounds', small') =
     let all : codes "solve" ∷ decimal e ∷ decimal b ∷ decimal r ∷ decimal s ∷ [] ≡ codes "solve" ∷ decimal e' ∷ decimal b' ∷ decimal r' ∷ decimal s' ∷ [] = sym x ∙ y in
     let one = same_later (codes "solve") (codes "solve") _ _ all in
     let two = same_later (decimal e) (decimal e') _ _ one in

@@ -9,9 +9,9 @@ use Rattle.solver_top.specs.WordFaults.{FitsALine, IsFaultBehind, IsLineFaultAt}
 pub line_fits : (words : List (List ℕ)) (command : Command) → IsLineOf words command → FitsALine words
 line_fits words Judge line = subst FitsALine (sym line) tt
 line_fits words Start line = subst FitsALine (sym line) tt
-line_fits words (Solve e b rounds seed) (line, edit, bound, most, none, small) =
+line_fits words (Solve e b rounds seed) (line, edit, bound, most, small) =
     subst FitsALine (sym line)
-    ((e, edit, refl), ((b, bound, refl), ((rounds, most, elim none [ inl h ↦ inl (ap decimal h) | inr h ↦ inr h ], refl), ((seed, small, refl), tt))))
+    ((e, edit, refl), ((b, bound, refl), ((rounds, most, refl), ((seed, small, refl), tt))))
 line_fits words Check line = subst FitsALine (sym line) tt
 line_fits words (Part name) line = subst FitsALine (sym line) ((name, refl), tt)
 line_fits words Weave line = subst FitsALine (sym line) tt

@@ -30,14 +30,14 @@ of_no_line Holds word words none h =
     let weave : Type 0 = MatchBool (bytes_eq word (codes "weave")) (Holds [] words) gen in
     let part : Type 0 = MatchBool (bytes_eq word (codes "part")) (Holds part_words words) weave in
     let check : Type 0 = MatchBool (bytes_eq word (codes "check")) (Holds [] words) part in
-    let solve : Type 0 = MatchBool (bytes_eq word (codes "solve")) (Holds (solve_words words) words) check in
+    let solve : Type 0 = MatchBool (bytes_eq word (codes "solve")) (Holds solve_words words) check in
     let start : Type 0 = MatchBool (bytes_eq word (codes "start")) (Holds [] words) solve in
     passed word (codes "gen-solve") (Holds gen_words words) ⊥ none.gen_solve
     (passed word (codes "gen") (Holds gen_words words) gen_solve none.gen
     (passed word (codes "weave") (Holds [] words) gen none.weave
     (passed word (codes "part") (Holds part_words words) weave none.part
     (passed word (codes "check") (Holds [] words) part none.check
-    (passed word (codes "solve") (Holds (solve_words words) words) check none.solve
+    (passed word (codes "solve") (Holds solve_words words) check none.solve
     (passed word (codes "start") (Holds [] words) solve none.start
     (passed word (codes "judge") (Holds [] words) start none.judge h)))))))
 

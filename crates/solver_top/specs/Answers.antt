@@ -44,7 +44,7 @@ ReadsAll Answers input left verdict text =
 abbrev pub IsInRange : Command → Type 0
 IsInRange Judge = Unit {0}
 IsInRange Start = Unit {0}
-IsInRange (Solve edit_workers bound_workers rounds seed) = (edit_workers ≤ 16) × (bound_workers ≤ 16) × ((edit_workers ≡ 0) ⊎ (rounds ≡ 0))
+IsInRange (Solve edit_workers bound_workers rounds seed) = (edit_workers ≤ 16) × (bound_workers ≤ 16) × (rounds ≤ 1000)
 IsInRange Check = Unit {0}
 IsInRange (Part name) = Unit {0}
 IsInRange Weave = Unit {0}

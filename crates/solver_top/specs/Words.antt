@@ -36,13 +36,12 @@ part_word part.Summary = codes "summary"
 abbrev pub IsPartWord : List ℕ → Type 0
 IsPartWord word = (name : ReportPart) × (word ≡ part_word name)
 
--- rounds, behind the number of edit workers: these make none yet, so beside them there are none
-abbrev pub IsRounds : (edit_workers word : List ℕ) → Type 0
-IsRounds edit_workers word = (n : ℕ) × (n ≤ 1000) × ((edit_workers ≡ decimal 0) ⊎ (n ≡ 0)) × (word ≡ decimal n)
+abbrev pub IsRounds : List ℕ → Type 0
+IsRounds word = (n : ℕ) × (n ≤ 1000) × (word ≡ decimal n)
 
 -- what the lines have behind their first word
-abbrev pub solve_words : List (List ℕ) → List (List ℕ → Type 0)
-solve_words words = IsWorkers ∷ IsWorkers ∷ IsRounds (slice_index_or words 0 []) ∷ IsSeed ∷ []
+abbrev pub solve_words : List (List ℕ → Type 0)
+solve_words = IsWorkers ∷ IsWorkers ∷ IsRounds ∷ IsSeed ∷ []
 
 abbrev pub part_words : List (List ℕ → Type 0)
 part_words = IsPartWord ∷ []
@@ -62,7 +61,7 @@ abbrev pub OfALine : (List (List ℕ → Type 0) → List (List ℕ) → Type 0)
 OfALine Holds first words =
     MatchBool (bytes_eq first (codes "judge")) (Holds [] words)
     (MatchBool (bytes_eq first (codes "start")) (Holds [] words)
-    (MatchBool (bytes_eq first (codes "solve")) (Holds (solve_words words) words)
+    (MatchBool (bytes_eq first (codes "solve")) (Holds solve_words words)
     (MatchBool (bytes_eq first (codes "check")) (Holds [] words)
     (MatchBool (bytes_eq first (codes "part")) (Holds part_words words)
     (MatchBool (bytes_eq first (codes "weave")) (Holds [] words)
@@ -80,7 +79,7 @@ IsLineOf words Judge = words ≡ codes "judge" ∷ []
 IsLineOf words Start = words ≡ codes "start" ∷ []
 IsLineOf words (Solve edit_workers bound_workers rounds seed) =
     (words ≡ codes "solve" ∷ decimal edit_workers ∷ decimal bound_workers ∷ decimal rounds ∷ decimal seed ∷ [])
-    × (edit_workers ≤ 16) × (bound_workers ≤ 16) × (rounds ≤ 1000) × ((edit_workers ≡ 0) ⊎ (rounds ≡ 0)) × (seed < 2 ^ 64)
+    × (edit_workers ≤ 16) × (bound_workers ≤ 16) × (rounds ≤ 1000) × (seed < 2 ^ 64)
 IsLineOf words Check = words ≡ codes "check" ∷ []
 IsLineOf words (Part name) = words ≡ codes "part" ∷ part_word name ∷ []
 IsLineOf words Weave = words ≡ codes "weave" ∷ []

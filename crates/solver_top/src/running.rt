@@ -151,14 +151,14 @@ fn input_of<I: Source, L: Ledger>(
     }
 }
 
-// What a command answers to an input that was read, or to none. Commands with workers take the runtime; those whose
-// workers share a board will take the gate.
+// What a command answers to an input that was read, or to none. Commands with workers take the runtime, and those whose
+// workers share a board the gate.
 fn work<R: Threads + Sync, G: Gate + Sync>(
     rt: &R,
     alloc: Global,
     command: Command,
     bytes: &[u8],
-    _gate: &G,
+    gate: &G,
 ) -> Result<Answer, NoMemory>
     requires { IsInRange command }
     ensures { IfOk result (λ answer. IsAnswerTo command bytes.now answer.verdict answer.text.items) }
@@ -177,7 +177,7 @@ fn work<R: Threads + Sync, G: Gate + Sync>(
                 rounds,
                 seed,
             };
-            solved(rt, alloc, bytes, edit_workers, search)
+            solved(rt, alloc, bytes, edit_workers, search, gate)
         }
         Command::Check => checked(alloc, bytes),
         Command::Part(part) => parted(alloc, bytes, part),

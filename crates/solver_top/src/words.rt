@@ -29,7 +29,7 @@ pub enum Command {
         edit_workers: u32,
         /// How many bound workers, at most 16.
         bound_workers: u32,
-        /// How many rounds each worker makes, at most 1,000; so far 0 where there are edit workers.
+        /// How many rounds each worker makes, at most 1,000.
         rounds: u32,
         /// Any number of 64 bits.
         seed: u64,

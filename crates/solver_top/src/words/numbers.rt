@@ -1,7 +1,7 @@
 // Words that are numbers.
 ghost use Rattle.std.specs.Prelude.{◌≡◌, ◌≢◌, ◌↔◌, ℕ, ◌<◌, ◌≤◌, IsTrue, MatchOption};
 ghost use Rattle.std.specs.Fmt.{decimal};
-ghost use Rattle.solver_top.specs.Words.{IsCount, IsRounds, IsSeed, IsWorkers};
+ghost use Rattle.solver_top.specs.Words.{IsCommits, IsCount, IsRounds, IsSeed, IsWorkers};
 
 use itoa::Buffer;
 
@@ -47,6 +47,16 @@ pub fn workers_of(word: &str) -> Option<u32>
     ensures { MatchOption result (¬ IsWorkers word.now) (λ n. (n ≤ 16) × (word.now ≡ decimal n)) }
 {
     match number(word, 0, 16) {
+        Some(n) => Some(n as u32),
+        None => None,
+    }
+}
+
+// The number of commits that a word is.
+pub fn commits_of(word: &str) -> Option<u32>
+    ensures { MatchOption result (¬ IsCommits word.now) (λ n. (n ≤ 200000) × (word.now ≡ decimal n)) }
+{
+    match number(word, 0, 200_000) {
         Some(n) => Some(n as u32),
         None => None,
     }

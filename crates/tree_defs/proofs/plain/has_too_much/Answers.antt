@@ -20,6 +20,6 @@ returns c =
     let a : to_z w64 (c.args.q * c.from.result) ≡ pos (c.args.q * c.from.result) = omega (arith, ints, m, c.requires.small) in
     let l : c.load_of.result ≡ load S rows e.lo e.hi = c.load_of.ensures ∙ ap₂ (λ i j. load S rows i j) c.lo.ensures c.hi.ensures in
     let b : to_z w64 (of_z w64 c.load_of.result) ≡ c.load_of.result =
-        omega (arith, ints, l, gives_le S rows e.lo e.hi c.requires.light c.requires.few, takes_le rows e.lo e.hi c.requires.light c.requires.few) in
+    omega (arith, ints, l, gives_le S rows e.lo e.hi c.requires.light c.requires.few, takes_le rows e.lo e.hi c.requires.light c.requires.few) in
     let n : c.args.q * c.from.result ≡ c.args.q * cost c.args.costs.now e.lo e.hi = ap (λ k. c.args.q * k) (c.from.ensures ∙ c.of.ensures.cost) in
     less (to_z w64 (c.args.q * c.from.result)) (to_z w64 (of_z w64 c.load_of.result)) (load S rows e.lo e.hi) (c.args.q * cost c.args.costs.now e.lo e.hi) (a ∙ ap (λ k. pos k) n) (b ∙ l)

@@ -1,5 +1,5 @@
 mod beside;
-mod ends;
+mod failing;
 mod meeting;
 mod one;
 

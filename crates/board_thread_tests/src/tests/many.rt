@@ -2,7 +2,6 @@
 ghost use Rattle.std.specs.Prelude.{◌≡◌, All, IfOk, OnOk};
 ghost use Rattle.std.specs.List.{AllByRecursion};
 ghost use Rattle.seats.specs.Seats.{SeatSeen};
-ghost use Rattle.board_tests.specs.Workers.{IsReadyToWork};
 
 use super::making::{Answer, board_of, core_of, hand_in, last_of, pair, put_back};
 use board::{Board, Pass};
@@ -150,8 +149,8 @@ fn try_plan(board: &Board, pass: &mut Pass, seed: u64) -> Answer
 }
 
 fn work(board: &Board, worker: &mut Worker)
-    requires { IsReadyToWork board.now worker.old }
-    ensures { IsReadyToWork board.now worker.new }
+    requires { worker.old.pass.of ≡ board.now }
+    ensures { worker.new.pass.of ≡ board.now }
 {
     for _ in 0..PLANS {
         worker.seed = next(next(worker.seed));
@@ -163,8 +162,8 @@ fn work(board: &Board, worker: &mut Worker)
 }
 
 fn work_all<R: Threads + Sync>(rt: &R, board: &Board, workers: &mut [Worker])
-    requires { All (IsReadyToWork board.now) workers.old }
-    ensures { All (IsReadyToWork board.now) workers.new }
+    requires { All (λ w. w.pass.of ≡ board.now) workers.old }
+    ensures { All (λ w. w.pass.of ≡ board.now) workers.new }
 {
     let threads = workers.len().max(1);
     thread::for_each_mut(
@@ -172,16 +171,16 @@ fn work_all<R: Threads + Sync>(rt: &R, board: &Board, workers: &mut [Worker])
         workers,
         threads,
         &|_, worker: &mut Worker|
-            requires { IsReadyToWork board.now worker.old }
-            ensures { IsReadyToWork board.entry.now worker.new }
+            requires { worker.old.pass.of ≡ board.now }
+            ensures { worker.new.pass.of ≡ board.entry.now }
         { work(board, worker) },
     );
 }
 
 fn add_worker(board: &Board, workers: &mut Vec<Worker>, pass: Pass, seed: u64) -> Result<(), Fail>
     requires pass { pass.of ≡ board.now }
-    requires workers { All (IsReadyToWork board.now) workers.old.items }
-    ensures { OnOk result (All (IsReadyToWork board.now) workers.new.items) }
+    requires workers { All (λ w. w.pass.of ≡ board.now) workers.old.items }
+    ensures { OnOk result (All (λ w. w.pass.of ≡ board.now) workers.new.items) }
 {
     let _points = board.points();
     workers.push(Worker {
@@ -194,9 +193,9 @@ fn add_worker(board: &Board, workers: &mut Vec<Worker>, pass: Pass, seed: u64) -
 }
 
 fn last_worker(board: &Board, workers: &mut Vec<Worker>) -> Result<Worker, Fail>
-    requires { All (IsReadyToWork board.now) workers.old.items }
-    ensures worker { IfOk result (IsReadyToWork board.now) }
-    ensures rest { All (IsReadyToWork board.now) workers.new.items }
+    requires { All (λ w. w.pass.of ≡ board.now) workers.old.items }
+    ensures worker { IfOk result (λ w. w.pass.of ≡ board.now) }
+    ensures rest { All (λ w. w.pass.of ≡ board.now) workers.new.items }
 {
     let _points = board.points();
     let last = workers.pop();
@@ -209,7 +208,7 @@ fn last_worker(board: &Board, workers: &mut Vec<Worker>) -> Result<Worker, Fail>
 // Four workers, each with a pass.
 fn workers_of(alloc: Global, board: &Board, passes: &mut Vec<Pass>) -> Result<Vec<Worker>, Fail>
     requires { AllByRecursion (λ (p : SeatSeen). p.of ≡ board.now) passes.old.items }
-    ensures workers { IfOk result (λ v. All (IsReadyToWork board.now) v.items) }
+    ensures workers { IfOk result (λ v. All (λ w. w.pass.of ≡ board.now) v.items) }
     ensures rest { OnOk result (AllByRecursion (λ (p : SeatSeen). p.of ≡ board.now) passes.new.items) }
 {
     let mut workers = Vec::new(alloc);
@@ -226,7 +225,7 @@ fn tally(
     workers: &mut Vec<Worker>,
     passes: &mut Vec<Pass>,
 ) -> Result<(u64, u64), Fail>
-    requires workers { All (IsReadyToWork board.now) workers.old.items }
+    requires workers { All (λ w. w.pass.of ≡ board.now) workers.old.items }
     requires passes { AllByRecursion (λ (p : SeatSeen). p.of ≡ board.now) passes.old.items }
     ensures { OnOk result (AllByRecursion (λ (p : SeatSeen). p.of ≡ board.now) passes.new.items) }
 {
@@ -254,13 +253,13 @@ fn scatter() -> [(i64, i64); 40] {
     points
 }
 
-// Each commit of the journal is legal in its turn, by all pairs and all points: a drop is where it leaves a convex
-// partition, and nothing else takes a kept pair away. What is left last is a convex partition, and what the core has.
+// Before and after each commit of the journal the kept pairs are a convex partition, and the commit is legal in its turn,
+// all by all pairs and all points. What is left last is what the core has.
 fn are_legal(alloc: Global, core: &Core) -> Result<bool, Fail> {
     let points = core.points();
     let mut state = opening(alloc, core.start())?;
     for commit in core.journal() {
-        if !is_within(points, &state) {
+        if !is_within(points, &state) || !is_convex_partition_plain(points, state.kept()) {
             return Ok(false);
         }
         let edits = commit.edits.as_slice();

@@ -1,7 +1,7 @@
 use denote.Param.Send.{sendable}
 use Rattle.std.proofs.Crossing.{crosses}
 use Rattle.board.proofs.Laws.{pass_send, board_sync}
-use Rattle.board_tests.proofs.tests.many.work_all.Goals as goal
+use Rattle.board_thread_tests.proofs.tests.many.work_all.Goals as goal
 
 pub for_each_mut-requires-send-T : goal.for_each_mut-requires-send-T
 for_each_mut-requires-send-T g c κs within = search (pass_send, crosses, sendable) depth 30

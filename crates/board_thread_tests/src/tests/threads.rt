@@ -2,7 +2,6 @@
 ghost use Rattle.std.specs.Prelude.{◌≡◌, All, IfOk, OnOk};
 ghost use Rattle.std.specs.List.{AllByRecursion};
 ghost use Rattle.seats.specs.Seats.{SeatSeen};
-ghost use Rattle.board_tests.specs.Jobs.{IsReady};
 
 use super::making::{Answer, GRID, board_of, core_of, hand_in, last_of, pair, put_back};
 use board::{Board, Pass};
@@ -52,8 +51,8 @@ impl Gate for Meeting {
 }
 
 fn work(board: &Board, job: &mut Job, meeting: &Meeting)
-    requires { IsReady board.now job.old }
-    ensures { IsReady board.now job.new }
+    requires { job.old.pass.of ≡ board.now }
+    ensures { job.new.pass.of ≡ board.now }
 {
     if job.first {
         let drop = [Edit::Drop(pair(1, 3))];
@@ -69,8 +68,8 @@ fn work(board: &Board, job: &mut Job, meeting: &Meeting)
 }
 
 fn work_all<R: Threads + Sync>(rt: &R, board: &Board, jobs: &mut [Job], meeting: &Meeting)
-    requires { All (IsReady board.now) jobs.old }
-    ensures { All (IsReady board.now) jobs.new }
+    requires { All (λ j. j.pass.of ≡ board.now) jobs.old }
+    ensures { All (λ j. j.pass.of ≡ board.now) jobs.new }
 {
     let threads = jobs.len().max(1);
     thread::for_each_mut(
@@ -78,16 +77,16 @@ fn work_all<R: Threads + Sync>(rt: &R, board: &Board, jobs: &mut [Job], meeting:
         jobs,
         threads,
         &|_, job: &mut Job|
-            requires { IsReady board.now job.old }
-            ensures { IsReady board.entry.now job.new }
+            requires { job.old.pass.of ≡ board.now }
+            ensures { job.new.pass.of ≡ board.entry.now }
         { work(board, job, meeting) },
     );
 }
 
 fn add_job(board: &Board, jobs: &mut Vec<Job>, pass: Pass, first: bool) -> Result<(), Fail>
     requires pass { pass.of ≡ board.now }
-    requires jobs { All (IsReady board.now) jobs.old.items }
-    ensures { OnOk result (All (IsReady board.now) jobs.new.items) }
+    requires jobs { All (λ j. j.pass.of ≡ board.now) jobs.old.items }
+    ensures { OnOk result (All (λ j. j.pass.of ≡ board.now) jobs.new.items) }
 {
     let _points = board.points();
     jobs.push(Job {
@@ -99,9 +98,9 @@ fn add_job(board: &Board, jobs: &mut Vec<Job>, pass: Pass, first: bool) -> Resul
 }
 
 fn last_job(board: &Board, jobs: &mut Vec<Job>) -> Result<Job, Fail>
-    requires { All (IsReady board.now) jobs.old.items }
-    ensures job { IfOk result (IsReady board.now) }
-    ensures rest { All (IsReady board.now) jobs.new.items }
+    requires { All (λ j. j.pass.of ≡ board.now) jobs.old.items }
+    ensures job { IfOk result (λ j. j.pass.of ≡ board.now) }
+    ensures rest { All (λ j. j.pass.of ≡ board.now) jobs.new.items }
 {
     let _points = board.points();
     let last = jobs.pop();

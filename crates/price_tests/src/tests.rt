@@ -1,7 +1,9 @@
 mod certificates;
 mod compared;
 mod floors;
+mod hostile;
 mod instances;
 mod loads;
 mod plain;
 mod starts;
+mod worked;

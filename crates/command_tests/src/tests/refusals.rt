@@ -118,6 +118,9 @@ const COSTS: &str =
 
 const CLOSING: &str = "]]]]]]]]]]]]]]]]]]]]]]]]]]]]]]]]]]]]]]]]]]]]]]]]]]]]]]]]]]]]]]]]";
 
+// One more.
+const MORE_CLOSING: &str = "]]]]]]]]]]]]]]]]]]]]]]]]]]]]]]]]]]]]]]]]]]]]]]]]]]]]]]]]]]]]]]]]]";
+
 const LIMITS: [(&str, &str, &str, &str, u32, &str, &str); 10] = [
     (
         "start",
@@ -134,7 +137,7 @@ const LIMITS: [(&str, &str, &str, &str, u32, &str, &str); 10] = [
         "[",
         "",
         64,
-        CLOSING,
+        MORE_CLOSING,
         "refused instance NotJson\n",
     ),
     (

@@ -1,0 +1,8 @@
+mod Steps
+mod SolutionSteps
+mod TreeSteps
+mod StatedSteps
+mod LaterSteps
+mod NodeLimits
+mod Read
+pub mod Laws

@@ -1,0 +1,57 @@
+-- The reading of a tree in steps.
+use Rattle.std.proofs.Common.{◌≡◌, ◌≢◌, ℕ, ◌<◌, ◌≤◌, List, [], ◌∷◌, map, length, nat_le, Option, Some, None, option_and_then, Result, Ok, Err, true, false, codes, refl, sym, ap, ◌∙◌, arith}
+use Rattle.std.proofs.lemmas.List.{length-map}
+use Rattle.serde_json.specs.Data.{Data}
+use Rattle.serde_json.specs.Find.{as_array}
+use Rattle.serde_json.specs.View.{view, items_view}
+use Rattle.serde_json.specs.declared.value.Value.{Value}
+use Rattle.text_defs.specs.Fields.{array_at}
+use Rattle.text_defs.specs.Items.{each_or_fault}
+use Rattle.text_defs.proofs.laws.Lists.{list_of-items_of}
+use Rattle.proof_io.specs.declared.faults.TreeLine.TheVariants as tree
+use Rattle.proof_io.specs.declared.faults.ProofFault.{ProofFault}
+use Rattle.proof_io.specs.declared.faults.ProofFault.TheVariants as at
+use Rattle.proof_io.specs.Parts.{NodeItem}
+use Rattle.proof_io.specs.Reading.{node_in, node_of, node_items, tree_in, most_nodes}
+
+-- ---- arrays of other lengths, and values that are none
+
+node_in-other : (n : ℕ) (ds : List Data) → length ds ≢ 3 → length ds ≢ 5 → node_in n ds ≡ None
+node_in-other n [] h k = refl
+node_in-other n (t ∷ []) h k = refl
+node_in-other n (t ∷ a ∷ []) h k = refl
+node_in-other n (t ∷ a ∷ b ∷ []) h k = absurd (h refl)
+node_in-other n (t ∷ a ∷ b ∷ c ∷ []) h k = refl
+node_in-other n (t ∷ a ∷ b ∷ c ∷ d ∷ []) h k = absurd (k refl)
+node_in-other n (t ∷ a ∷ b ∷ c ∷ d ∷ e ∷ more) h k = refl
+
+pub node_of-other : (n : ℕ) (d : Data) (vs : List Value) → Some (items_view vs) ≡ as_array d → length vs ≢ 3 → length vs ≢ 5 → None ≡ node_of n d
+node_of-other n d vs h k l =
+    let same = length-map vs view in
+    rw (← h, list_of-items_of (map view vs)) (sym (node_in-other n (map view vs) (λ e. k (sym same ∙ e)) (λ e. l (sym same ∙ e))))
+
+pub node_of-items : (n : ℕ) (d : Data) (vs : List Value) → Some (items_view vs) ≡ as_array d → node_of n d ≡ node_in n (map view vs)
+node_of-items n d vs h = rw (← h, list_of-items_of (map view vs)) refl
+
+pub node_of-none : (n : ℕ) (d : Data) → None ≡ as_array d → None ≡ node_of n d
+node_of-none n d h = rw (← h) refl
+
+-- ---- the list of nodes
+
+pub no_tree : (n : ℕ) (d : Data) → None ≡ array_at (codes "tree") d → tree_in n d ≡ Err (at.Tree tree.NoTree)
+no_tree n d h = rw (← h) refl
+
+pub to_nodes : (n : ℕ) (d : Data) (vs : List Value) → Some (items_view vs) ≡ array_at (codes "tree") d → tree_in n d ≡ node_items n (map view vs)
+to_nodes n d vs h = rw (← h, list_of-items_of (map view vs)) refl
+
+pub nodes-many : (n : ℕ) (vs : List Value) → most_nodes < length vs → node_items n (map view vs) ≡ Err (at.Tree (tree.TooManyNodes (length vs)))
+nodes-many n vs h =
+    let same = length-map vs view in
+    let many : nat_le (length (map view vs)) most_nodes ≡ false = grind (arith, same) in
+    rw many (ap (λ c. Err (at.Tree (tree.TooManyNodes c))) same)
+
+pub nodes-few : (n : ℕ) (vs : List Value) → length vs ≤ most_nodes → node_items n (map view vs) ≡ each_or_fault (node_of n) (λ k. at.Tree (tree.BadNode k)) (map view vs)
+nodes-few n vs h =
+    let same = length-map vs view in
+    let few : nat_le (length (map view vs)) most_nodes ≡ true = grind (arith, same) in
+    rw few refl

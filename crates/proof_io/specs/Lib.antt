@@ -1,0 +1,4 @@
+pub mod Parts
+pub mod Reading
+pub mod Proofs
+pub mod Answers

@@ -1,0 +1,18 @@
+//! Reads proofs of a least cost: an instance, a solution, a branch tree and what is said of them, one a line.
+#![tactic(auto)]
+
+mod faults;
+mod lines;
+mod nodes;
+mod proof;
+mod reading;
+mod solution;
+mod stated;
+mod tree;
+
+pub use faults::{ProofFault, StatedField, StatedLine, TreeLine};
+pub use proof::{Proof, Stated};
+pub use reading::{MOST_TO_PROVE, read_proof};
+
+#[cfg(test)]
+mod tests;

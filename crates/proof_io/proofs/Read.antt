@@ -48,9 +48,9 @@ read_answer bytes L I p has few same later =
       proof_within p here.accepted low (later_within (length p.instance.points) L.second L.third L.fourth (later_parts p) read))
 
 pub behind_answer : (bytes : List ℕ) (L : FourLines) (I : Instance) (result : Result Proof ProofFault) → HasLines bytes L → instances.IsRead (instance_from L.first) (Ok I) → IsFewBehind I L.second L.third L.fourth result → IsAnswered bytes result
-behind_answer bytes L I (Ok p) cut read (inl (few, ok, same, later)) = read_answer bytes L I p (at_first bytes L I cut read ok) few same later
-behind_answer bytes L I (Err fault) cut read (inl (few, ok, inl m)) = (subst (HasFault bytes) (sym m) tt, tt)
-behind_answer bytes L I (Err fault) cut read (inl (few, ok, inr (kind, later))) =
+behind_answer bytes L I (Ok p) cut read (inl (few, behind)) = read_answer bytes L I p (at_first bytes L I cut read behind.0) few behind.1 behind.2
+behind_answer bytes L I (Err fault) cut read (inl (few, (ok, inl m))) = (subst (HasFault bytes) (sym m) tt, tt)
+behind_answer bytes L I (Err fault) cut read (inl (few, (ok, inr (kind, later)))) =
     (has_later bytes fault kind (record { lines = L; instance = I; is = at_first bytes L I cut read ok; few = few; later = later }), tt)
 behind_answer bytes L I result cut read (inr (ok, many, is)) =
     subst (IsAnswered bytes) (sym is) (record { lines = L; instance = I; is = at_first bytes L I cut read ok; count = refl; many = many }, tt)

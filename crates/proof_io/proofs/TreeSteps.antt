@@ -1,18 +1,18 @@
 -- The reading of a tree in steps.
-use Rattle.std.proofs.Common.{◌≡◌, ◌≢◌, ℕ, ◌<◌, ◌≤◌, List, [], ◌∷◌, map, length, nat_le, Option, Some, None, option_and_then, Result, Ok, Err, true, false, codes, refl, sym, ap, ◌∙◌, arith}
+use Rattle.std.proofs.Common.{◌≡◌, ◌≢◌, ℕ, ◌<◌, ◌≤◌, List, [], ◌∷◌, map, length, nat_le, Option, Some, None, option_and_then, option_map, get_or, Result, Ok, Err, true, false, codes, refl, sym, ap, ◌∙◌, arith}
 use Rattle.std.proofs.lemmas.List.{length-map}
 use Rattle.serde_json.specs.Data.{Data}
 use Rattle.serde_json.specs.Find.{as_array}
 use Rattle.serde_json.specs.View.{view, items_view}
 use Rattle.serde_json.specs.declared.value.Value.{Value}
 use Rattle.text_defs.specs.Fields.{array_at}
-use Rattle.text_defs.specs.Items.{each_or_fault}
+use Rattle.text_defs.specs.Items.{number_within, each_or_fault}
 use Rattle.text_defs.proofs.laws.Lists.{list_of-items_of}
 use Rattle.proof_io.specs.declared.faults.TreeLine.TheVariants as tree
 use Rattle.proof_io.specs.declared.faults.ProofFault.{ProofFault}
 use Rattle.proof_io.specs.declared.faults.ProofFault.TheVariants as at
-use Rattle.proof_io.specs.Parts.{NodeItem}
-use Rattle.proof_io.specs.Reading.{node_in, node_of, node_items, tree_in, most_nodes}
+use Rattle.proof_io.specs.Parts.{NodeItem, prices}
+use Rattle.proof_io.specs.Reading.{rows_in, prices_in, node_in, node_of, node_items, tree_in, most_divisor, most_nodes}
 
 -- ---- arrays of other lengths, and values that are none
 
@@ -55,3 +55,16 @@ nodes-few n vs h =
     let same = length-map vs view in
     let few : nat_le (length (map view vs)) most_nodes ≡ true = grind (arith, same) in
     rw few refl
+
+-- ---- a node with prices
+
+pub prices_in-rows : (n : ℕ) (vs list : List Value) (a b : Value) (q : ℕ) → length vs ≡ 3 → a ≡ get_or vs 1 a → b ≡ get_or vs 2 b → Some q ≡ number_within 0 most_divisor (view a)
+    → Some (items_view list) ≡ as_array (view b) → prices_in n (map view vs) ≡ option_map (prices q) (rows_in n (map view list))
+prices_in-rows n [] list a b q l e f h k = absurd (omega (arith, l))
+prices_in-rows n (x ∷ []) list a b q l e f h k = absurd (omega (arith, l))
+prices_in-rows n (x ∷ y ∷ []) list a b q l e f h k = absurd (omega (arith, l))
+prices_in-rows n (x ∷ y ∷ z ∷ []) list a b q l e f h k =
+    let divisor : number_within 0 most_divisor (view y) ≡ Some q = ap (λ v. number_within 0 most_divisor (view v)) (sym e) ∙ sym h in
+    let rows : as_array (view z) ≡ Some (items_view list) = ap (λ v. as_array (view v)) (sym f) ∙ sym k in
+    rw (divisor, rows, list_of-items_of (map view list)) refl
+prices_in-rows n (x ∷ y ∷ z ∷ w ∷ vs) list a b q l e f h k = absurd (omega (arith, l))

@@ -82,12 +82,12 @@ pub record HasFirstFault (bytes : List ℕ) (fault : InstanceFault) : Type 0 whe
   pub first : instances.HasFault (instance_from lines.first) fault
 
 -- the text has four lines, and the first is an instance of so many points, which are too many
-pub record HasManyPoints (bytes : List ℕ) (count : ℕ) : Type 0 where
+pub record HasManyPoints (bytes : List ℕ) (n : ℕ) : Type 0 where
   pub lines : FourLines
   pub instance : Instance
   pub is : HasInstance bytes lines instance
-  pub count : length instance.points ≡ count
-  pub many : MOST_TO_PROVE < count
+  pub count : length instance.points ≡ n
+  pub many : MOST_TO_PROVE < n
 
 -- the text has four lines, the first is an instance of few points, and the first fault of the lines behind it is this one
 pub record HasLaterFault (bytes : List ℕ) (fault : ProofFault) : Type 0 where

@@ -11,10 +11,10 @@ use Rattle.proof_io.proofs.tree.tree_of.Goals as goal
 pub returns-in_default : goal.returns-in_default
 returns-in_default c = inr (tt, no_tree c.args.n (view c.args.value.now) c.in_default.ensures)
 
-pub returns-then-items-gt-MOST_NODES : goal.returns-then-items-gt-MOST_NODES
-returns-then-items-gt-MOST_NODES c =
+pub returns-then-items : goal.returns-then-items
+returns-then-items c =
     or_answer tell_nodes (tree_in c.args.n (view c.args.value.now)) (at.Tree (tree.TooManyNodes (length c.in-Some.items.now))) c.too_many_nodes.result tt
-    (to_nodes c.args.n (view c.args.value.now) c.in-Some.items.now c.in-Some.ensures ∙ nodes-many c.args.n c.in-Some.items.now c.if-items-gt-MOST_NODES.true) c.too_many_nodes.ensures
+    (to_nodes c.args.n (view c.args.value.now) c.in-Some.items.now c.in-Some.ensures ∙ nodes-many c.args.n c.in-Some.items.now c.if-items.true) c.too_many_nodes.ensures
 
 pub returns : goal.returns
 returns c =

@@ -5,4 +5,4 @@ mod StatedSteps
 mod LaterSteps
 mod NodeLimits
 mod Read
-pub mod Laws
+mod Written

@@ -1,4 +1,5 @@
 pub mod Parts
 pub mod Reading
+pub mod Texts
 pub mod Proofs
 pub mod Answers

@@ -1,17 +1,19 @@
 -- A proof: its parts, and how a text is answered.
-use Rattle.std.specs.Prelude.{◌≡◌, ◌≢◌, ◌≤◌, ◌<◌, ℕ, List, [], ◌∷◌, map, length, Ok, Err, Result, Vec}
+use Rattle.std.specs.Prelude.{◌≡◌, ◌≢◌, ◌≤◌, ◌<◌, ◌^◌, ℕ, List, [], ◌∷◌, map, length, Ok, Err, Result, Vec}
 use Rattle.std.specs.declared.alloc.Global.{Global}
 use Rattle.std.specs.List.{All}
+use Rattle.serde_json.specs.Data.{Data}
 use Rattle.plane.specs.Accepted.{AreAccepted}
 use Rattle.text_defs.specs.Instances.{instance_from}
-use Rattle.text_defs.specs.Lines.{lines}
+use Rattle.text_defs.specs.Lines.{lines, lines_text}
+use Rattle.text_defs.specs.Texts.{instance_data, with_costs, solution_data}
 use Rattle.price_defs.specs.declared.row.Row.{Row}
 use Rattle.instance_io.specs.Refusal as instances
-use Rattle.instance_io.specs.Refusal.{ends}
+use Rattle.instance_io.specs.Refusal.{coordinates, cost_item, ends}
 use Rattle.instance_io.specs.declared.instances.Instance.{Instance}
 use Rattle.instance_io.specs.declared.instances.InstanceFault.{InstanceFault}
 use Rattle.instance_io.specs.declared.instances.InstanceFault.TheVariants as named
-use Rattle.report_io.specs.Limits.{AreBelow}
+use Rattle.report_io.specs.Limits.{AreBelow, IsInstanceWithin}
 use Rattle.report_io.specs.Parts.{RowItem}
 use Rattle.report_io.specs.Report.{row_item, solution_parts}
 use Rattle.tree_defs.specs.Conditions.{IsNodeOf}
@@ -19,11 +21,13 @@ use Rattle.tree_defs.specs.declared.node.TheConstants.{MOST_NODES}
 use Rattle.tree_defs.specs.declared.node.Node.{Node}
 use Rattle.tree_defs.specs.declared.node.Node.TheVariants.{Branch, Crossed, Barred, Need, Prices}
 use Rattle.proof_io.specs.declared.proof.Proof.{Proof}
+use Rattle.proof_io.specs.declared.proof.Stated.{Stated}
 use Rattle.proof_io.specs.declared.reading.TheConstants.{MOST_TO_PROVE}
 use Rattle.proof_io.specs.declared.faults.ProofFault.{ProofFault}
 use Rattle.proof_io.specs.declared.faults.ProofFault.TheVariants as at
 use Rattle.proof_io.specs.Parts.{NodeItem, branch, crossed, barred, need, prices, LaterParts}
 use Rattle.proof_io.specs.Reading.{later_from}
+use Rattle.proof_io.specs.Texts.{tree_data, stated_data}
 
 -- ---- the parts that a proof has
 
@@ -44,6 +48,16 @@ later_parts p = record {
   tree = map node_item p.tree;
   stated = p.stated;
 }
+
+-- ---- the text of a proof: four lines, each with its LF
+
+abbrev pub proof_lines : Proof → List Data
+proof_lines p =
+    with_costs (map cost_item p.instance.costs) (instance_data p.instance.name (map coordinates p.instance.points))
+    ∷ solution_data p.solution_name (map ends p.solution) ∷ tree_data (map node_item p.tree) ∷ stated_data p.stated ∷ []
+
+abbrev pub proof_text : Proof → List ℕ
+proof_text p = lines_text (proof_lines p)
 
 -- ---- the reading of a text
 
@@ -116,3 +130,15 @@ pub record IsProofWithin (p : Proof) : Type 0 where
   pub solution : AreBelow (length p.instance.points) p.solution
   pub nodes : length p.tree ≤ MOST_NODES
   pub tree : All (IsNodeOf p.instance.points) p.tree
+
+-- the numbers are such as a text has
+pub record IsStatedWithin (s : Stated) : Type 0 where
+  pub cost : s.cost < 2 ^ 63
+  pub least : s.least < 2 ^ 63
+  pub nodes : s.nodes < 2 ^ 63
+
+-- a proof that is within the limits of the formats
+pub record IsWithin (p : Proof) : Type 0 where
+  pub instance : IsInstanceWithin p.instance
+  pub parts : IsProofWithin p
+  pub stated : IsStatedWithin p.stated

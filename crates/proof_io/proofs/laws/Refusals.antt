@@ -1,4 +1,4 @@
--- Laws of proofs, which any crate may cite: a text that gives a proof isn't refused.
+-- A text that gives a proof isn't refused.
 use Rattle.std.proofs.Common.{◌≡◌, ◌≢◌, ℕ, ◌<◌, ◌≤◌, List, [], ◌∷◌, length, Result, Ok, Err, refl, sym, ap, ◌∙◌, subst, arith}
 use Rattle.text_defs.specs.Instances.{instance_from}
 use Rattle.text_defs.specs.Lines.{lines}
@@ -24,7 +24,7 @@ lines_once : (bytes : List ℕ) (L M : FourLines) → HasLines bytes L → HasLi
 unfolding four_of
 lines_once bytes L M h k = ap four_of (sym h ∙ k)
 
-instance_once : (bytes : List ℕ) (L M : FourLines) (I J : Instance) → HasInstance bytes L I → HasInstance bytes M J → (L ≡ M) × (I ≡ J)
+pub instance_once : (bytes : List ℕ) (L M : FourLines) (I J : Instance) → HasInstance bytes L I → HasInstance bytes M J → (L ≡ M) × (I ≡ J)
 instance_once bytes L M I J h k =
     let same : L ≡ M = lines_once bytes L M h.cut k.cut in
     (same, read_once (instance_from M.first) I J (subst (λ (N : FourLines). instances.IsRead (instance_from N.first) (Ok I)) same h.read) k.read)

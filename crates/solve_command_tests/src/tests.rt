@@ -92,12 +92,17 @@ fn reversed<R: Threads + Sync>(rt: &R, alloc: Global) -> Result<String, Fail> {
     let (front, rest) = made.split_once("[{").unwrap_or(("", ""));
     let (items, _) = rest.split_once("}]").unwrap_or(("", ""));
     let mut text = String::from_str(alloc, front)?;
-    let mut mark = "[{";
+    text.push_str("[")?;
+    let mut later = false;
     for item in items.rsplit("},{") {
-        text.push_str(mark)?;
+        if later {
+            text.push_str(",")?;
+        }
+        later = true;
+        text.push_str("{")?;
         text.push_str(item)?;
-        mark = "},{";
+        text.push_str("}")?;
     }
-    text.push_str("}],\"type\":\"Instance\",\"meta\":{\"made\":[7]}}")?;
+    text.push_str("],\"type\":\"Instance\",\"meta\":{\"made\":[7]}}")?;
     Ok(text)
 }

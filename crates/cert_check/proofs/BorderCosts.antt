@@ -18,7 +18,8 @@ use Rattle.partition_defs.proofs.laws.Joined.{joined, joins_of, join_back, ends_
 use Rattle.cost_defs.specs.Costs.{Costed, cost, total}
 use Rattle.number_laws.proofs.ListSums.{contains_cases, contains_here, contains_later}
 use Rattle.price_defs.proofs.laws.Duality.{border_cost_once}
-use Rattle.cert_check.specs.BorderCosts.{HasBorderCost, IsStepBelow, AreSteps}
+use Rattle.cert_check.specs.BorderCosts.{IsStepBelow, AreSteps}
+use Rattle.cert_check.specs.Answers.{HasBorderCost}
 use Rattle.cert_check.proofs.Turning.{no_step_back}
 
 joins_later : (e : Pair) (list : List Pair) (i j : ℕ) → Joins list i j → Joins (e ∷ list) i j

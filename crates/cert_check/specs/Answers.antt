@@ -11,6 +11,10 @@ use Rattle.price_defs.specs.Faults.{IsBadRow, IsOverload}
 use Rattle.cert_check.specs.declared.checking.CertFault.{CertFault}
 use Rattle.cert_check.specs.declared.checking.CertFault.TheVariants.{ZeroQ, TooManyRows, BadRow, Overload, NoMemory}
 
+-- h is what the border pairs cost together
+abbrev pub HasBorderCost : List Point → List Costed → ℕ → Type 0
+HasBorderCost S D h = (B : List Pair) × IsBorderList S B × (h ≡ total D B)
+
 -- the first fault, in the order of their kinds
 abbrev pub IsCertFault : List Point → List Costed → ℕ → List Row → CertFault → Type 0
 IsCertFault S D q rows ZeroQ = q ≡ 0

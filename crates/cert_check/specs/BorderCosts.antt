@@ -7,12 +7,8 @@ use Rattle.plane.specs.declared.coordinates.Turn.TheVariants.{Left}
 use Rattle.plane.specs.declared.segment.Pair.{Pair}
 use Rattle.plane.specs.Hull.{IsBorderStep}
 use Rattle.partition_defs.specs.Partition.{HasEnds, Joins}
-use Rattle.partition_defs.specs.Triangulation.{AreDistinct, IsBorderList}
+use Rattle.partition_defs.specs.Triangulation.{AreDistinct}
 use Rattle.cost_defs.specs.Costs.{Costed, total}
-
--- h is what the border pairs cost together
-abbrev pub HasBorderCost : List Point → List Costed → ℕ → Type 0
-HasBorderCost S D h = (B : List Pair) × IsBorderList S B × (h ≡ total D B)
 
 -- the pair is a step along the border from a point below k
 pub record IsStepBelow (S : List Point) (k : ℕ) (e : Pair) : Type 0 where

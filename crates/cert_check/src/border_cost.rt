@@ -1,6 +1,6 @@
 // What the border pairs cost.
 ghost use Rattle.std.specs.Prelude.{◌≤◌};
-ghost use Rattle.cert_check.specs.BorderCosts.{HasBorderCost};
+ghost use Rattle.cert_check.specs.Answers.{HasBorderCost};
 
 use cost_defs::Costs;
 use plane::{Pair, Points};

@@ -2,7 +2,7 @@
 //! report or a proof ask it.
 #![tactic(auto)]
 
-mod border_cost;
+pub mod border_cost;
 mod checking;
 mod clear_tests;
 mod overload;

@@ -1,3 +1,4 @@
 pub mod Border
-pub mod Prices
 pub mod Bounds
+pub mod Found
+pub mod Prices

@@ -1,10 +1,11 @@
 // What bound workers find from a certificate, and the best of it.
-ghost use Rattle.std.specs.Prelude.{◌≡◌, ◌≤◌, ◌<◌, ◌+◌, ℕ, length, IfOk, slice_index_or, vec_len};
+ghost use Rattle.std.specs.Prelude.{◌≡◌, ◌≤◌, ◌<◌, ◌+◌, ℕ, length, map, Ok, IfOk, slice_index_or, vec_len};
 ghost use Rattle.std.specs.List.{All, IsFirstMaxByKey};
 ghost use Rattle.price_defs.specs.Loads.{value};
 ghost use Rattle.search_defs.specs.Best.{IsBest};
 ghost use Rattle.price_defs.specs.declared.row.Certificate.{Certificate};
-ghost use Rattle.lower_bounds.specs.Prices.{IsFirst, IsWithin, IsFoundBy, AreFound, IsListed, CanBeValued};
+ghost use Rattle.lower_bounds.specs.Found.{IsFirst, IsWithin, IsFoundBy, AreFound};
+ghost use Rattle.lower_bounds.specs.Prices.{AreTried, CanBeValued};
 
 use bound_worker::price;
 use cost_defs::Costs;
@@ -65,7 +66,7 @@ fn found<R: Threads + Sync>(
 ) -> Result<Vec<Result<Certificate, NoMemory>>, NoMemory>
     requires few { search.workers ≤ 16 }
     requires first { IsFirst points.now costs.now first.now }
-    ensures { IfOk result (λ list. AreFound points.now costs.now first.now search list.items) }
+    ensures { IfOk result (λ list. AreTried points.now costs.now first.now search list.items) }
 {
     let list = map_indices(
         rt,
@@ -76,16 +77,14 @@ fn found<R: Threads + Sync>(
     Ok(list)
 }
 
-// The candidates: the first certificate, then those of the bound workers in their order.
-fn candidates(
+// What they found, where all found memory.
+fn taken(
     alloc: Global,
-    first: Certificate,
     found: Vec<Result<Certificate, NoMemory>>,
 ) -> Result<Vec<Certificate>, NoMemory>
-    ensures { IfOk result (λ list. IsListed first found.items list.items) }
+    ensures { IfOk result (λ list. map Ok list.items ≡ found.items) }
 {
-    let mut list = Vec::new(alloc);
-    list.push(first)?;
+    let mut list = Vec::with_capacity(alloc, found.len())?;
     for item in found {
         list.push(item?)?;
     }
@@ -107,24 +106,42 @@ fn best_place(list: &[Certificate]) -> usize
     best
 }
 
-/// The best certificate that so many bound workers find from the first one: of the greatest value, and of those the first
-/// one, then the one of the least worker.
-pub fn best<R: Threads + Sync>(
+/// What so many bound workers, at most 16, find from the first certificate, in their order.
+pub fn all_found<R: Threads + Sync>(
     rt: &R,
     alloc: Global,
     points: &Points,
     costs: &Costs,
+    first: &Certificate,
+    search: Search,
+) -> Result<Vec<Certificate>, NoMemory>
+    requires few { search.workers ≤ 16 }
+    requires first { IsFirst points.now costs.now first.now }
+    ensures { IfOk result (λ list. AreFound points.now costs.now first.now search list.items) }
+{
+    let found = found(rt, alloc, points, costs, first, search)?;
+    taken(alloc, found)
+}
+
+/// The best of the first certificate and of what bound workers found from it: of the greatest value, and of those the
+/// first one, then the one of the least worker.
+pub fn best(
+    points: &Points,
+    costs: &Costs,
     first: Certificate,
+    found: Vec<Certificate>,
     search: Search,
 ) -> Result<Certificate, NoMemory>
-    requires few { search.workers ≤ 16 }
     requires first { IsFirst points.now costs.now first }
+    requires found { AreFound points.now costs.now first search found.items }
     ensures best { IfOk result (λ c. IsBest points.now costs.now search.workers search.rounds search.seed c) }
     ensures valued { IfOk result CanBeValued }
     ensures within { IfOk result IsWithin }
 {
-    let found = found(rt, alloc, points, costs, &first, search)?;
-    let mut list = candidates(alloc, first, found)?;
+    let _count = points.len();
+    let _listed = costs.list();
+    let mut list = found;
+    list.insert(0, first)?;
     let place = best_place(&list);
     Ok(list.swap_remove(place))
 }

@@ -8,7 +8,7 @@ mod bounding;
 mod prices;
 
 pub use bests::Search;
-pub use bounding::{LowerBound, lower_bound};
+pub use bounding::{Basis, LowerBound, basis_of, bound_from, lower_bound};
 
 #[cfg(test)]
 mod tests;

@@ -1,6 +1,6 @@
 // The first certificate: the floor certificate, raised.
 ghost use Rattle.std.specs.Prelude.{IfOk};
-ghost use Rattle.lower_bounds.specs.Prices.{IsFirst};
+ghost use Rattle.lower_bounds.specs.Found.{IsFirst};
 
 use cost_defs::Costs;
 use dual_prices::{Certificate, floor_certificate, raise_all};

@@ -1,5 +1,5 @@
--- A text that is a report isn't refused.
-use Rattle.std.proofs.Common.{◌≡◌, ◌≢◌, ℕ, List, length, Ok, sym, ◌∙◌, ap, subst, refl}
+-- A text that is a report isn't refused, nor one with enough commits called too short.
+use Rattle.std.proofs.Common.{◌≡◌, ◌≢◌, ℕ, ◌<◌, ◌≤◌, arith, List, length, Ok, sym, ◌∙◌, ap, subst, refl}
 use Rattle.plane.specs.Accepted.{AreAccepted}
 use Rattle.text_defs.specs.Instances.{instance_from}
 use Rattle.text_defs.specs.Lines.{lines}
@@ -11,7 +11,7 @@ use Rattle.report_io.specs.declared.faults.ReportFault.{ReportFault}
 use Rattle.report_io.specs.declared.faults.ReportFault.TheVariants as at
 use Rattle.report_io.specs.declared.report.Report.{Report}
 use Rattle.report_io.specs.Report.{FiveLines, Gives, HasLaterFault, HasFault, later_of, later_parts}
-use Rattle.report_io.proofs.laws.ReportBack.{lines_once}
+use Rattle.report_io.proofs.laws.ReportBack.{lines_once, gives_once}
 
 no_later : (bytes : List ℕ) (r : Report) (fault : ReportFault) → Gives bytes r → HasLaterFault bytes fault → ⊥
 no_later bytes r fault g h =
@@ -34,3 +34,9 @@ report_not_refused bytes r (at.Certificate f) ok g named h = no_later bytes r (a
 report_not_refused bytes r (at.Journal f) ok g named h = no_later bytes r (at.Journal f) g h
 report_not_refused bytes r (at.Summary f) ok g named h = no_later bytes r (at.Summary f) g h
 report_not_refused bytes r at.NoMemory ok g named h = named refl
+
+-- a report has as many commits as it has
+pub not_too_late : (bytes : List ℕ) (r s : Report) (k : ℕ) → Gives bytes r → Gives bytes s → k ≤ length r.commits → length s.commits < k → ⊥
+not_too_late bytes r s k g h far late =
+    let same : length r.commits ≡ length s.commits = ap (λ (x : Report). length x.commits) (gives_once bytes r s g h) in
+    omega (arith, same, far, late)

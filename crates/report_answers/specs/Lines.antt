@@ -93,3 +93,7 @@ report_fault_text report.NoMemory = codes "NoMemory"
 
 abbrev pub refused_line : ReportFault → List ℕ
 refused_line f = codes "refused report " ++ (report_fault_text f ++ codes "\n")
+
+-- a journal of so many commits has no later moment
+abbrev pub too_late_line : ℕ → List ℕ
+too_late_line commits = codes "refused rewind TooLate " ++ (decimal commits ++ codes "\n")

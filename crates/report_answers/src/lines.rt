@@ -1,7 +1,7 @@
 // The lines that are printed.
 ghost use Rattle.std.specs.Prelude.{◌≡◌, string_bytes, IfOk};
 ghost use Rattle.report_answers.specs.Lines.{field_text, yes_text, counts_text, valid_line, cert_fault_text, no_line};
-ghost use Rattle.report_answers.specs.Lines.{third_text, fourth_text, fifth_text, report_fault_text, refused_line};
+ghost use Rattle.report_answers.specs.Lines.{third_text, fourth_text, fifth_text, report_fault_text, refused_line, too_late_line};
 
 use cert_check::CertFault;
 use fault_texts::{instance_fault_text, pair_text, solution_fault_text};
@@ -167,4 +167,11 @@ pub fn refused_line(alloc: Global, fault: &ReportFault) -> Result<String, AllocE
 {
     let text = report_fault_text(alloc, fault)?;
     format!(in alloc; "refused report {text}\n")
+}
+
+/// The line of a report whose journal has so many commits, fewer than are asked for.
+pub fn too_late_line(alloc: Global, commits: usize) -> Result<String, AllocError>
+    ensures { IfOk result (λ line. string_bytes line ≡ too_late_line commits) }
+{
+    format!(in alloc; "refused rewind TooLate {commits}\n")
 }

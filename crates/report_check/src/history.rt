@@ -4,7 +4,7 @@ ghost use Rattle.std.specs.List.{All};
 ghost use Rattle.partition_defs.specs.Sets.{IsMinimal};
 ghost use Rattle.replay.specs.Replayed.{IsCore, state_of};
 ghost use Rattle.report_io.specs.Limits.{AreLaterWithin, IsCommitWithin};
-ghost use Rattle.report_defs.specs.Relation.{HasHead};
+ghost use Rattle.report_defs.specs.Relation.{HasHead, IsRight, IsStartInOrder};
 ghost use Rattle.report_defs.specs.Verdicts.{IsVerdict, HasSolved, IsFirstBadCommit, IsFirstToGo};
 ghost use Rattle.report_check.specs.Replays.{IsOf, IsReplayOf, drop_of};
 
@@ -105,5 +105,22 @@ pub fn history_fault(alloc: Global, report: &Report) -> Result<Option<Verdict>, 
     match replayed(&mut core, report.commits.as_slice())? {
         Some(k) => Ok(Some(Verdict::NoJournal(k))),
         None => end_fault(alloc, &mut core, report),
+    }
+}
+
+/// The core of a right report: its start, its journal, and the state that the journal leads to.
+pub fn core_of(alloc: Global, report: &Report) -> Result<Core, NoMemory>
+    requires within { AreLaterWithin report.now }
+    requires right { IsRight report.now }
+    ensures points { IfOk result (λ c. c.points ≡ report.now.instance.points) }
+    ensures start { IfOk result (λ c. IsStartInOrder report.now c.start) }
+    ensures journal { IfOk result (λ c. c.journal ≡ report.now.commits) }
+    ensures core { IfOk result IsCore }
+{
+    let mut core = opening(alloc, report)?;
+    let bad = replayed(&mut core, report.commits.as_slice())?;
+    match bad {
+        Some(_) => unreachable!(),
+        None => Ok(core),
     }
 }

@@ -11,4 +11,5 @@ mod result;
 mod summary;
 
 pub use checking::check_report;
+pub use history::core_of;
 pub use report_defs::Verdict;

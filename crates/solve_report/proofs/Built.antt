@@ -15,21 +15,21 @@ use Rattle.solve_report.specs.Reports.{IsSummary}
 use Rattle.solve_report.specs.Texts.{IsRunReport}
 use Rattle.solve_report.proofs.laws.Headlines.{bound_low}
 
-pub run_few : (S : List Point) (D : List Costed) (search : Search) (run : Solved) → IsSolvedBy S D search run → length run.kept.items ≤ 15000
-run_few S D search run h = let a = h.few in let b = h.fewer in omega (arith, a, b)
+pub run_few : (S : List Point) (D : List Costed) (E : ℕ) (search : Search) (run : Solved) → IsSolvedBy S D E search run → length run.kept.items ≤ 15000
+run_few S D E search run h = let a = h.few in let b = h.fewer in omega (arith, a, b)
 
-pub run_short : (S : List Point) (D : List Costed) (search : Search) (run : Solved) → IsSolvedBy S D search run → length run.journal.items < 2 ^ 32
-run_short S D search run h =
-    let solved : IsSolved S D 0 run.start.items run.journal.items run.kept.items run.certificate = h.solved 0 in
+pub run_short : (S : List Point) (D : List Costed) (E : ℕ) (search : Search) (run : Solved) → IsSolvedBy S D E search run → length run.journal.items < 2 ^ 32
+run_short S D E search run h =
+    let solved : IsSolved S D E run.start.items run.journal.items run.kept.items run.certificate = h.solved in
     let a = solved.manned.swept in
     let b = solved.manned.worked in
     omega (arith, a, b)
 
-pub run_below : (S : List Point) (D : List Costed) (search : Search) (run : Solved) → AreAccepted S → IsSolvedBy S D search run → run.bound ≤ total D run.kept.items
-run_below S D search run accepted h = bound_low S D 0 run.start.items run.journal.items run.kept.items run.certificate run.bound accepted (h.solved 0) h.bound
+pub run_below : (S : List Point) (D : List Costed) (E : ℕ) (search : Search) (run : Solved) → AreAccepted S → IsSolvedBy S D E search run → run.bound ≤ total D run.kept.items
+run_below S D E search run accepted h = bound_low S D E run.start.items run.journal.items run.kept.items run.certificate run.bound accepted h.solved h.bound
 
 -- the report of the parts, and a copy of the name
-pub run_report : (I : Instance) (E : ℕ) (search : Search) (run : Solved) (s : Summary) (copy : List ℕ) (r : Report) → IsSolvedBy I.points I.costs search run → copy ≡ I.name
+pub run_report : (I : Instance) (E : ℕ) (search : Search) (run : Solved) (s : Summary) (copy : List ℕ) (r : Report) → IsSolvedBy I.points I.costs E search run → copy ≡ I.name
     → IsSummary I.costs E run.journal.items run.kept.items run.bound s
     → r ≡ record {
       instance = record { name = I.name; points = run.points; costs = I.costs };
@@ -55,9 +55,10 @@ run_report I E search run s copy r h name summary is =
     } in
     subst (IsRunReport I E search.workers search.rounds search.seed) (sym (is ∙ ap make h.points)) (record {
       instance = refl;
-      solved = record { name = name; solved = h.solved E; value = h.bound; summary = summary };
+      solved = record { name = name; solved = h.solved; value = h.bound; summary = summary };
       best = h.best;
-      plain = record { start = h.start; journal = h.journal };
+      plain = λ none. record { start = h.start; journal = h.plain none };
+      worked = λ some more. record { start = h.start; journal = h.worked some more };
       few = h.few;
       fewer = h.fewer;
     })

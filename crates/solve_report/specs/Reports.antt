@@ -8,6 +8,7 @@ use Rattle.journal_defs.specs.Journal.{made}
 use Rattle.search_defs.specs.Best.{IsBest}
 use Rattle.solve_defs.specs.PlainRun.{IsSweepJournal}
 use Rattle.solve_defs.specs.Solved.{IsBound, IsSolved}
+use Rattle.run_defs.specs.WorkedRun.{IsWorkedJournal}
 use Rattle.triangulate.specs.SweepSet.{IsSweepSet}
 use Rattle.report_io.specs.declared.report.Report.{Report}
 use Rattle.report_io.specs.declared.summary.Summary.{Summary}
@@ -42,3 +43,8 @@ HasBest workers rounds seed r = IsBest r.instance.points r.instance.costs worker
 pub record IsPlainReport (r : Report) : Type 0 where
   pub start : IsSweepSet r.instance.points r.start
   pub journal : IsSweepJournal r.instance.points r.start r.commits
+
+-- with E edit workers the start is all sweep pairs, and the journal their sweep, the workers' commits and another sweep
+pub record IsWorkedReport (E rounds seed : ℕ) (r : Report) : Type 0 where
+  pub start : IsSweepSet r.instance.points r.start
+  pub journal : IsWorkedJournal r.instance.points r.instance.costs E rounds seed r.start r.commits

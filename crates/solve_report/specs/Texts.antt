@@ -1,5 +1,5 @@
 -- What `solve` writes of an instance, and `gen-solve` of one that it makes. (This project's own.)
-use Rattle.std.specs.Prelude.{◌≡◌, ℕ, ◌≤◌, List, [], ◌++◌, length, codes}
+use Rattle.std.specs.Prelude.{◌≡◌, ℕ, ◌≤◌, ◌⊎◌, List, [], ◌++◌, length, codes}
 use Rattle.generator.specs.declared.kinds.Kind.{Kind}
 use Rattle.generator.specs.Kinds.{AreMade}
 use Rattle.generator.specs.Names.{made_name}
@@ -7,15 +7,16 @@ use Rattle.instance_io.specs.declared.instances.Instance.{Instance}
 use Rattle.report_io.specs.declared.report.Part.TheVariants as part
 use Rattle.report_io.specs.declared.report.Report.{Report}
 use Rattle.report_io.specs.Report.{part_text}
-use Rattle.solve_report.specs.Reports.{IsSolvedReport, HasBest, IsPlainReport}
+use Rattle.solve_report.specs.Reports.{IsSolvedReport, HasBest, IsPlainReport, IsWorkedReport}
 
--- The report is of this instance, solved without edit workers at work. The most segments that a triangulation of so many
+-- The report is of this instance, solved with so many workers of each kind. The most segments that a triangulation of so many
 -- points has.
 pub record IsRunReport (I : Instance) (E workers rounds seed : ℕ) (r : Report) : Type 0 where
   pub instance : r.instance ≡ I
   pub solved : IsSolvedReport E r
   pub best : HasBest workers rounds seed r
-  pub plain : IsPlainReport r
+  pub plain : (E ≡ 0) ⊎ (rounds ≡ 0) → IsPlainReport r
+  pub worked : 1 ≤ E → 1 ≤ rounds → IsWorkedReport E rounds seed r
   pub few : length r.start ≤ 15000
   pub fewer : length r.solution ≤ length r.start
 

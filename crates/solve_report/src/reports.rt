@@ -8,7 +8,7 @@ ghost use Rattle.solve_report.specs.Texts.{IsRunReport};
 use crate::summing::summary_of;
 use cost_defs::Costs;
 use instance_io::{Instance, Name};
-use mcp_outside::NoMemory;
+use mcp_outside::{Gate, NoMemory};
 use plane::PairList;
 use report_io::{CommitList, Report, Summary};
 use solver::{Search, Solved, solve};
@@ -52,17 +52,19 @@ fn report_of(name: Name, solution_name: Name, costs: Costs, run: Solved, summary
     }
 }
 
-/// Solves an instance with so many bound workers, at most 16, and no edit worker at work, and reports it. The summary
-/// counts the commits of the callers 0 to `edit_workers`, at most 16. (This project's own.)
-pub fn solved_report<R: Threads + Sync>(
+/// Solves an instance with so many edit workers and so many bound workers, at most 16 each, of at most 1,000 rounds, and
+/// reports it. The summary counts the commits of the callers 0 to `edit_workers`. (This project's own.)
+pub fn solved_report<R: Threads + Sync, G: Gate + Sync>(
     rt: &R,
     alloc: Global,
     instance: Instance,
     edit_workers: u32,
     search: Search,
+    gate: &G,
 ) -> Result<Report, NoMemory>
     requires edit_workers { edit_workers ≤ 16 }
     requires workers { search.workers ≤ 16 }
+    requires rounds { search.rounds ≤ 1000 }
     ensures { IfOk result (IsRunReport instance edit_workers search.workers search.rounds search.seed) }
 {
     let Instance {
@@ -72,7 +74,7 @@ pub fn solved_report<R: Threads + Sync>(
     } = instance;
     let _count = points.len();
     let solution_name = copy_of(alloc, &name)?;
-    let run = solve(rt, alloc, points, &costs, search)?;
+    let run = solve(rt, alloc, points, &costs, edit_workers, search, gate)?;
     let summary = summary_of(alloc, &costs, &run, edit_workers)?;
     Ok(report_of(name, solution_name, costs, run, summary))
 }

@@ -2,6 +2,7 @@
 use crate::{Search, solved_line, solved_text};
 use generator::Kind;
 use instance_io::{Costs, Instance, Name};
+use mcp_outside::OpenGate;
 use plane::{Point, Points};
 use std::process::Abort;
 use std::test::Fail;
@@ -31,7 +32,7 @@ fn reports_by_hand(rt: HostRuntime) -> Result<(), Fail> {
         rounds: 0,
         seed: 1,
     };
-    let text = solved_text(&rt, rt.alloc(), instance, 1, search)?;
+    let text = solved_text(&rt, rt.alloc(), instance, 1, search, &OpenGate)?;
     assert_eq!(rt; text.as_slice(), REPORT.as_bytes());
     let line = solved_line(&rt, rt.alloc(), Kind::Ring, 5, 1)?;
     assert_eq!(rt;

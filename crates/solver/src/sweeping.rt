@@ -2,6 +2,7 @@
 ghost use Rattle.std.specs.Prelude.{◌≡◌, ◌≤◌, [], length, IfOk, OnOk};
 ghost use Rattle.replay.specs.Replayed.{IsCore};
 ghost use Rattle.solve_defs.specs.PlainRun.{IsSweepJournal};
+ghost use Rattle.solver.specs.Working.{HasBeenSwept};
 
 use mcp_outside::NoMemory;
 use plane::Points;
@@ -46,5 +47,17 @@ pub fn swept_core(points: Points, all: Subdivision) -> Result<Core, NoMemory>
 {
     let mut core = core_of(points, all)?;
     sweep(&mut core)?;
+    Ok(core)
+}
+
+/// The core after one more sweep of what is kept.
+pub fn swept_again(core: Core) -> Result<Core, NoMemory>
+    requires start { length core.start ≤ 15000 }
+    requires few { length core.journal ≤ 79000 }
+    ensures { IfOk result (HasBeenSwept core) }
+{
+    let _count = core.points().len();
+    let mut core = core;
+    core.sweep()?;
     Ok(core)
 }

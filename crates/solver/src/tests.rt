@@ -1,6 +1,7 @@
 // Runs on small instances, worked out by hand and held against the plain slow program.
 use crate::{Search, Solved, solve};
 use cost_defs::Costs;
+use mcp_outside::OpenGate;
 use partition_defs::is_convex_partition_plain;
 use plane::{Point, Points};
 use std::alloc::Global;
@@ -51,10 +52,49 @@ fn runs_of_small_instances(rt: HostRuntime) -> Result<(), Fail> {
                 rounds: 3,
                 seed: 7,
             };
-            let run = solve(&rt, rt.alloc(), points, &Costs::unit(), search)?;
+            let run = solve(
+                &rt,
+                rt.alloc(),
+                points,
+                &Costs::unit(),
+                0,
+                search,
+                &OpenGate,
+            )?;
             assert_eq!(rt; run.start.len(), start, "of {list:?}");
             assert_eq!(rt; run.journal.len(), commits, "of {list:?}");
             assert_eq!(rt; run.kept.len(), start - commits, "of {list:?}");
+            assert_eq!(rt; run.bound, bound, "of {list:?}");
+            hold_against_plain(&rt, rt.alloc(), &run)?;
+        }
+    }
+    Ok(())
+}
+
+// Beside edit workers the bound is the same, and the solution is no dearer than without them.
+#[test]
+fn runs_with_edit_workers(rt: HostRuntime) -> Result<(), Fail> {
+    for (list, start, commits, bound) in CASES {
+        for edit_workers in [1, 3] {
+            let points = make(&rt, rt.alloc(), list)?;
+            let search = Search {
+                workers: 2,
+                rounds: 3,
+                seed: 7,
+            };
+            let run = solve(
+                &rt,
+                rt.alloc(),
+                points,
+                &Costs::unit(),
+                edit_workers,
+                search,
+                &OpenGate,
+            )?;
+            assert!(rt;
+                run.kept.len() <= start.saturating_sub(commits),
+                "of {list:?}"
+            );
             assert_eq!(rt; run.bound, bound, "of {list:?}");
             hold_against_plain(&rt, rt.alloc(), &run)?;
         }

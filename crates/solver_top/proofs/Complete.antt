@@ -16,7 +16,7 @@ use Rattle.solution_io.specs.declared.fault.SolutionFault.{SolutionFault}
 use Rattle.solution_io.specs.declared.fault.SolutionFault.TheVariants as solution
 use Rattle.solution_io.specs.Refusal.{HasFault as HasEdgesFault}
 use Rattle.solver_top.specs.declared.words.Command.{Command}
-use Rattle.solver_top.specs.declared.words.Command.TheVariants.{Judge, Start, Solve, Check, Part, Weave, Gen, GenSolve}
+use Rattle.solver_top.specs.declared.words.Command.TheVariants.{Judge, Start, Solve, Check, Part, Weave, Rewind, EditSession, Gen, GenSolve}
 use Rattle.solver_top.specs.Statuses.{status_of}
 use Rattle.solver_top.specs.declared.status.Status.{Status}
 use Rattle.solver_top.specs.declared.status.Status.TheVariants as status
@@ -33,17 +33,22 @@ use Rattle.solver_top.specs.Answers.{IsAnswer, IsAnswerOf, IsTooLong, HasInput, 
 use Rattle.solver_top.specs.Judging.{IsJudged, IsRefused}
 use Rattle.solver_top.specs.Starting.{IsStarted, IsRefusedInstance}
 use Rattle.solver_top.specs.Solving.{IsSolveAnswer}
-use Rattle.solver_top.specs.Checking.{IsCheckAnswer, IsPartAnswer}
+use Rattle.solver_top.specs.Checking.{IsCheckAnswer, IsPartAnswer, IsRewindAnswer}
+use Rattle.solver_top.specs.Editing.{IsEditAnswer, IsRefusedSession}
 use Rattle.solver_top.specs.Weaving.{IsWeaveAnswer, IsRefusedScript}
 use Rattle.report_io.specs.declared.report.Report.{Report}
 use Rattle.report_io.specs.declared.report.Part.{Part as ReportPart}
 use Rattle.report_io.specs.Report.{Gives as GivesReport}
 use Rattle.report_answers.specs.declared.answer.Told.TheVariants as told
 use Rattle.report_answers.specs.Answers.{IsRefusedReport}
-use Rattle.report_answers.proofs.Laws.{report_not_refused}
+use Rattle.report_answers.specs.Rewinding.{ReachesReport, IsTooLate}
+use Rattle.report_answers.proofs.Laws.{report_not_refused, not_too_late}
 use Rattle.weave.specs.declared.step.Step.{Step}
 use Rattle.weave_script.specs.Scripts.{IsScript}
 use Rattle.weave_script.proofs.Laws.{script_not_refused}
+use Rattle.edit_session.specs.declared.command.EditCommand.{EditCommand}
+use Rattle.session_script.specs.Sessions.{IsSession}
+use Rattle.session_script.proofs.Laws.{session_not_refused}
 
 parts_same : (input : List ℕ) (a b c d : Data) → HasParts input a b → HasParts input c d → (a ≡ c) × (b ≡ d)
 parts_same input a b c d h k =
@@ -86,6 +91,15 @@ not_refused_report input text (few, (r, gives, ok)) (fault, named, h, e) = repor
 pub not_refused_script : (input text : List ℕ) → HasInput Weave input → IsRefusedScript input text → ⊥
 not_refused_script input text (few, (S, list, is)) (fault, named, h, e) = script_not_refused input S list fault is named h
 
+pub not_refused_rewind : (k : ℕ) (input text : List ℕ) → HasInput (Rewind k) input → (IsRefusedReport input text → ⊥) × (IsTooLate k input text → ⊥)
+not_refused_rewind k input text (few, (r, ((gives, ok), far))) = (
+  λ (fault, named, h, e). report_not_refused input r fault ok gives named h,
+  λ (s, (given, fine), late, e). not_too_late input r s k gives given far late,
+)
+
+pub not_refused_session : (input text : List ℕ) → HasInput EditSession input → IsRefusedSession input text → ⊥
+not_refused_session input text (few, (S, D, list, is)) (fault, named, h, e) = session_not_refused input S D list fault is named h
+
 abbrev IsAnswered : Verdict → Type 0
 IsAnswered verdict = (verdict ≡ Done) ⊎ (verdict ≡ No)
 
@@ -124,6 +138,18 @@ weave_answer input S list No text is h = absurd h
 weave_answer input S list Usage text is h = absurd h
 weave_answer input S list Refused text is (fault, named, h, e) = absurd (script_not_refused input S list fault is named h)
 
+rewind_answer : (k : ℕ) (input : List ℕ) (r : Report) (verdict : Verdict) (text : List ℕ) → ReachesReport k input r → IsRewindAnswer k input verdict text → IsAnswered verdict
+rewind_answer k input r verdict text reaches (told.Yes, is, h) = inl is
+rewind_answer k input r verdict text reaches (told.No, is, h) = inr is
+rewind_answer k input r verdict text ((gives, ok), far) (told.Refused, is, inl (fault, named, h, e)) = absurd (report_not_refused input r fault ok gives named h)
+rewind_answer k input r verdict text ((gives, ok), far) (told.Refused, is, inr (s, (given, fine), late, e)) = absurd (not_too_late input r s k gives given far late)
+
+edit_answer : (input : List ℕ) (S : List Point) (D : List Costed) (list : List EditCommand) (verdict : Verdict) (text : List ℕ) → IsSession input S D list → IsEditAnswer input verdict text → IsAnswered verdict
+edit_answer input S D list Done text is h = inl refl
+edit_answer input S D list No text is h = absurd h
+edit_answer input S D list Usage text is h = absurd h
+edit_answer input S D list Refused text is (fault, named, h, e) = absurd (session_not_refused input S D list fault is named h)
+
 long_enough : (input : List ℕ) (left : Option (List ℕ)) (verdict : Verdict) (text : List ℕ) → length input ≤ most_input → IsTooLong input left verdict text → ⊥
 long_enough input left verdict text few h = omega (arith, h.0.0)
 
@@ -141,6 +167,10 @@ command_answered (Part name) input left verdict text (few, (r, gives, ok)) (inl 
 command_answered (Part name) input left verdict text (few, (r, gives, ok)) (inr (len, at_end, h)) = part_answer name input r verdict text gives ok h
 command_answered Weave input left verdict text (few, (S, list, is)) (inl long) = absurd (long_enough input left verdict text few long)
 command_answered Weave input left verdict text (few, (S, list, is)) (inr (len, at_end, h)) = weave_answer input S list verdict text is h
+command_answered (Rewind k) input left verdict text (few, (r, reaches)) (inl long) = absurd (long_enough input left verdict text few long)
+command_answered (Rewind k) input left verdict text (few, (r, reaches)) (inr (len, at_end, h)) = rewind_answer k input r verdict text reaches h
+command_answered EditSession input left verdict text (few, (S, D, list, is)) (inl long) = absurd (long_enough input left verdict text few long)
+command_answered EditSession input left verdict text (few, (S, D, list, is)) (inr (len, at_end, h)) = edit_answer input S D list verdict text is h
 command_answered (Gen kind n seed) input left verdict text has (alone, (done, made)) = inl done
 command_answered (GenSolve kind n seed) input left verdict text has (alone, (done, made)) = inl done
 

@@ -6,7 +6,7 @@ use Rattle.generator.specs.declared.kinds.Kind.{Kind}
 use Rattle.generator.specs.declared.kinds.Kind.TheVariants.{Scatter, Grid, Ring, Wide}
 use Rattle.generator.specs.Names.{kind_word}
 use Rattle.solver_top.specs.declared.words.Command.{Command}
-use Rattle.solver_top.specs.declared.words.Command.TheVariants.{Judge, Start, Solve, Check, Part, Weave, Gen, GenSolve}
+use Rattle.solver_top.specs.declared.words.Command.TheVariants.{Judge, Start, Solve, Check, Part, Weave, Rewind, EditSession, Gen, GenSolve}
 use Rattle.report_io.specs.declared.report.Part.{Part as ReportPart}
 use Rattle.report_io.specs.declared.report.Part.TheVariants as part
 use Rattle.solver_top.specs.declared.status.Verdict.{Verdict}
@@ -19,7 +19,7 @@ place [] word = 0
 place (known ∷ others) word = cond (bytes_eq word known) 0 (1 + place others word)
 
 abbrev first_words : List (List ℕ)
-first_words = codes "judge" ∷ codes "start" ∷ codes "gen" ∷ codes "solve" ∷ codes "gen-solve" ∷ codes "check" ∷ codes "part" ∷ codes "weave" ∷ []
+first_words = codes "judge" ∷ codes "start" ∷ codes "gen" ∷ codes "solve" ∷ codes "gen-solve" ∷ codes "check" ∷ codes "part" ∷ codes "weave" ∷ codes "rewind" ∷ codes "edit" ∷ []
 
 abbrev first_word : Command → List ℕ
 first_word Judge = codes "judge"
@@ -28,6 +28,8 @@ first_word (Solve e b rounds seed) = codes "solve"
 first_word Check = codes "check"
 first_word (Part name) = codes "part"
 first_word Weave = codes "weave"
+first_word (Rewind k) = codes "rewind"
+first_word EditSession = codes "edit"
 first_word (Gen kind n seed) = codes "gen"
 first_word (GenSolve kind n seed) = codes "gen-solve"
 
@@ -44,6 +46,8 @@ first_is words (Solve e b rounds seed) line = (decimal e ∷ decimal b ∷ decim
 first_is words Check line = ([], line)
 first_is words (Part name) line = (part_word name ∷ [], line)
 first_is words Weave line = ([], line)
+first_is words (Rewind k) line = (decimal k ∷ [], line.0)
+first_is words EditSession line = ([], line)
 first_is words (Gen kind n seed) line = (kind_word kind ∷ decimal n ∷ decimal seed ∷ [], line.0)
 first_is words (GenSolve kind n seed) line = (kind_word kind ∷ decimal n ∷ decimal seed ∷ [], line.0)
 
@@ -79,7 +83,7 @@ gen_solve_same words k l n m s t (e, low, high, small) (f, low', high', small') 
     made_same (λ x y z. GenSolve x y z) (codes "gen-solve") k l n m s t high high' small small' (sym e ∙ f)
 
 solve_same : (words : List (List ℕ)) (e e' b b' r r' s s' : ℕ) → IsLineOf words (Solve e b r s) → IsLineOf words (Solve e' b' r' s') → ◌≡◌ {A = Command} (Solve e b r s) (Solve e' b' r' s')
-solve_same words e e' b b' r r' s s' (x, edit, bound, rounds, none, small) (y, edit', bound', rounds', none', small') =
+solve_same words e e' b b' r r' s s' (x, edit, bound, rounds, small) (y, edit', bound', rounds', small') =
     let all : codes "solve" ∷ decimal e ∷ decimal b ∷ decimal r ∷ decimal s ∷ [] ≡ codes "solve" ∷ decimal e' ∷ decimal b' ∷ decimal r' ∷ decimal s' ∷ [] = sym x ∙ y in
     let one = same_later (codes "solve") (codes "solve") _ _ all in
     let two = same_later (decimal e) (decimal e') _ _ one in
@@ -108,6 +112,11 @@ part_line_same words a b line own =
     let later = same_later (codes "part") (codes "part") _ _ (sym line ∙ own) in
     ap (λ x. Part x) (part_same a b (ap (place part_names) (same_first (part_word a) (part_word b) _ _ later)))
 
+rewind_same : (words : List (List ℕ)) (k m : ℕ) → IsLineOf words (Rewind k) → IsLineOf words (Rewind m) → ◌≡◌ {A = Command} (Rewind k) (Rewind m)
+rewind_same words k m (line, few) (own, low) =
+    let later = same_later (codes "rewind") (codes "rewind") _ _ (sym line ∙ own) in
+    ap (λ x. Rewind x) (decimal_injective k m (omega (arith, few)) (omega (arith, low)) (same_first (decimal k) (decimal m) _ _ later))
+
 same_by_place : (words : List (List ℕ)) (a b : Command) → IsLineOf words a → IsLineOf words b → place first_words (first_word a) ≡ place first_words (first_word b) → a ≡ b
 same_by_place words Judge Judge line own e = refl
 same_by_place words Start Start line own e = refl
@@ -115,6 +124,8 @@ same_by_place words (Solve e b r s) (Solve e' b' r' s') line own h = solve_same 
 same_by_place words Check Check line own e = refl
 same_by_place words (Part a) (Part b) line own e = part_line_same words a b line own
 same_by_place words Weave Weave line own e = refl
+same_by_place words (Rewind k) (Rewind m) line own e = rewind_same words k m line own
+same_by_place words EditSession EditSession line own e = refl
 same_by_place words (Gen k n s) (Gen l m t) line own e = gen_same words k l n m s t line own
 same_by_place words (GenSolve k n s) (GenSolve l m t) line own e = gen_solve_same words k l n m s t line own
 same_by_place words a b line own e = absurd (omega (arith, e))
@@ -140,6 +151,8 @@ answer_to_any (Solve e b r s) xs ys verdict text idle h = absurd (cc)
 answer_to_any Check xs ys verdict text e h = absurd (cc)
 answer_to_any (Part name) xs ys verdict text e h = absurd (cc)
 answer_to_any Weave xs ys verdict text e h = absurd (cc)
+answer_to_any (Rewind k) xs ys verdict text e h = absurd (cc)
+answer_to_any EditSession xs ys verdict text e h = absurd (cc)
 answer_to_any (Gen kind n seed) xs ys verdict text e h = h
 answer_to_any (GenSolve kind n seed) xs ys verdict text e h = h
 

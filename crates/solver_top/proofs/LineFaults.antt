@@ -2,19 +2,21 @@
 use Rattle.std.proofs.Common.{ℕ, suc, ◌+◌, List, ◌∷◌, take, codes, Result, Ok, Err, IfErr, inl, inr, sym, subst, ap, refl, add-one, arith}
 use Rattle.std.specs.Fmt.{decimal}
 use Rattle.solver_top.specs.declared.words.Command.{Command}
-use Rattle.solver_top.specs.declared.words.Command.TheVariants.{Judge, Start, Solve, Check, Part, Weave, Gen, GenSolve}
+use Rattle.solver_top.specs.declared.words.Command.TheVariants.{Judge, Start, Solve, Check, Part, Weave, Rewind, EditSession, Gen, GenSolve}
 use Rattle.solver_top.specs.Words.{gen_words, Begins, BeginsALine, IsLineOf, IsFaultAt}
 use Rattle.solver_top.specs.WordFaults.{FitsALine, IsFaultBehind, IsLineFaultAt}
 
 pub line_fits : (words : List (List ℕ)) (command : Command) → IsLineOf words command → FitsALine words
 line_fits words Judge line = subst FitsALine (sym line) tt
 line_fits words Start line = subst FitsALine (sym line) tt
-line_fits words (Solve e b rounds seed) (line, edit, bound, most, none, small) =
+line_fits words (Solve e b rounds seed) (line, edit, bound, most, small) =
     subst FitsALine (sym line)
-    ((e, edit, refl), ((b, bound, refl), ((rounds, most, elim none [ inl h ↦ inl (ap decimal h) | inr h ↦ inr h ], refl), ((seed, small, refl), tt))))
+    ((e, edit, refl), ((b, bound, refl), ((rounds, most, refl), ((seed, small, refl), tt))))
 line_fits words Check line = subst FitsALine (sym line) tt
 line_fits words (Part name) line = subst FitsALine (sym line) ((name, refl), tt)
 line_fits words Weave line = subst FitsALine (sym line) tt
+line_fits words (Rewind k) (line, few) = subst FitsALine (sym line) ((k, few, refl), tt)
+line_fits words EditSession line = subst FitsALine (sym line) tt
 line_fits words (GenSolve kind n seed) (line, low, high, small) =
     subst FitsALine (sym line) ((kind, refl), ((n, low, high, refl), ((seed, small, refl), tt)))
 line_fits words (Gen kind n seed) (line, low, high, small) =

@@ -5,7 +5,7 @@ use Rattle.std.specs.declared.alloc.Global.{Global}
 use Rattle.std.proofs.lemmas.Bool.{false_from_ne_true}
 use Rattle.std.proofs.lemmas.Bool.Decides.{when_false}
 use Rattle.std.proofs.lemmas.Slice.Eq.{bytes_eq-Decides}
-use Rattle.solver_top.specs.Words.{words_of, solve_words, part_words, gen_words, Begins, OfALine}
+use Rattle.solver_top.specs.Words.{words_of, solve_words, part_words, rewind_words, gen_words, Begins, OfALine}
 use Rattle.solver_top.specs.WordFaults.{Fits, IsLineFaultAt}
 
 -- a word isn't this one, so what holds of its line isn't meant
@@ -20,6 +20,8 @@ pub record IsNoFirst (word : List ℕ) : Type 0 where
   pub check : word ≡ codes "check" → ⊥
   pub part : word ≡ codes "part" → ⊥
   pub weave : word ≡ codes "weave" → ⊥
+  pub rewind : word ≡ codes "rewind" → ⊥
+  pub edit : word ≡ codes "edit" → ⊥
   pub gen : word ≡ codes "gen" → ⊥
   pub gen_solve : word ≡ codes "gen-solve" → ⊥
 
@@ -27,19 +29,23 @@ of_no_line : (Holds : List (List ℕ → Type 0) → List (List ℕ) → Type 0)
 of_no_line Holds word words none h =
     let gen_solve : Type 0 = MatchBool (bytes_eq word (codes "gen-solve")) (Holds gen_words words) ⊥ in
     let gen : Type 0 = MatchBool (bytes_eq word (codes "gen")) (Holds gen_words words) gen_solve in
-    let weave : Type 0 = MatchBool (bytes_eq word (codes "weave")) (Holds [] words) gen in
+    let edit : Type 0 = MatchBool (bytes_eq word (codes "edit")) (Holds [] words) gen in
+    let rewind : Type 0 = MatchBool (bytes_eq word (codes "rewind")) (Holds rewind_words words) edit in
+    let weave : Type 0 = MatchBool (bytes_eq word (codes "weave")) (Holds [] words) rewind in
     let part : Type 0 = MatchBool (bytes_eq word (codes "part")) (Holds part_words words) weave in
     let check : Type 0 = MatchBool (bytes_eq word (codes "check")) (Holds [] words) part in
-    let solve : Type 0 = MatchBool (bytes_eq word (codes "solve")) (Holds (solve_words words) words) check in
+    let solve : Type 0 = MatchBool (bytes_eq word (codes "solve")) (Holds solve_words words) check in
     let start : Type 0 = MatchBool (bytes_eq word (codes "start")) (Holds [] words) solve in
     passed word (codes "gen-solve") (Holds gen_words words) ⊥ none.gen_solve
     (passed word (codes "gen") (Holds gen_words words) gen_solve none.gen
-    (passed word (codes "weave") (Holds [] words) gen none.weave
+    (passed word (codes "edit") (Holds [] words) gen none.edit
+    (passed word (codes "rewind") (Holds rewind_words words) edit none.rewind
+    (passed word (codes "weave") (Holds [] words) rewind none.weave
     (passed word (codes "part") (Holds part_words words) weave none.part
     (passed word (codes "check") (Holds [] words) part none.check
-    (passed word (codes "solve") (Holds (solve_words words) words) check none.solve
+    (passed word (codes "solve") (Holds solve_words words) check none.solve
     (passed word (codes "start") (Holds [] words) solve none.start
-    (passed word (codes "judge") (Holds [] words) start none.judge h)))))))
+    (passed word (codes "judge") (Holds [] words) start none.judge h)))))))))
 
 moved : (word other : List ℕ) → word ≡ other → IsNoFirst word → IsNoFirst other
 moved word other same none = record {
@@ -49,6 +55,8 @@ moved word other same none = record {
   check = λ e. none.check (same ∙ e);
   part = λ e. none.part (same ∙ e);
   weave = λ e. none.weave (same ∙ e);
+  rewind = λ e. none.rewind (same ∙ e);
+  edit = λ e. none.edit (same ∙ e);
   gen = λ e. none.gen (same ∙ e);
   gen_solve = λ e. none.gen_solve (same ∙ e);
 }

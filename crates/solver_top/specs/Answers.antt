@@ -9,7 +9,7 @@ use Rattle.cost_defs.specs.Costs.{Costed}
 use Rattle.text_defs.specs.Instances.{instance_from}
 use Rattle.instance_io.specs.Refusal.{Gives}
 use Rattle.solver_top.specs.declared.words.Command.{Command}
-use Rattle.solver_top.specs.declared.words.Command.TheVariants.{Judge, Start, Solve, Check, Part, Weave, Gen, GenSolve}
+use Rattle.solver_top.specs.declared.words.Command.TheVariants.{Judge, Start, Solve, Check, Part, Weave, Rewind, EditSession, Gen, GenSolve}
 use Rattle.solver_top.specs.declared.status.Verdict.{Verdict}
 use Rattle.solver_top.specs.declared.status.Verdict.TheVariants.{Done, Usage, Refused}
 use Rattle.solver_top.specs.Words.{IsLineOf, IsFaultAt}
@@ -18,13 +18,17 @@ use Rattle.solver_top.specs.Bundles.{HasBundle}
 use Rattle.solver_top.specs.Judging.{IsJudged}
 use Rattle.solver_top.specs.Starting.{IsStarted}
 use Rattle.solver_top.specs.Solving.{IsSolveAnswer}
-use Rattle.solver_top.specs.Checking.{IsCheckAnswer, IsPartAnswer}
+use Rattle.solver_top.specs.Checking.{IsCheckAnswer, IsPartAnswer, IsRewindAnswer}
+use Rattle.solver_top.specs.Editing.{IsEditAnswer}
 use Rattle.solver_top.specs.Weaving.{IsWeaveAnswer}
 use Rattle.solver_top.specs.Generating.{IsGenerated}
 use Rattle.weave.specs.declared.step.Step.{Step}
 use Rattle.weave_script.specs.Scripts.{IsScript}
 use Rattle.report_io.specs.declared.report.Report.{Report}
 use Rattle.report_io.specs.Report.{Gives as GivesReport}
+use Rattle.report_answers.specs.Rewinding.{ReachesReport}
+use Rattle.edit_session.specs.declared.command.EditCommand.{EditCommand}
+use Rattle.session_script.specs.Sessions.{IsSession}
 use Rattle.solve_report.specs.Texts.{IsSolvedLine}
 
 -- the greatest input, in bytes
@@ -44,10 +48,12 @@ ReadsAll Answers input left verdict text =
 abbrev pub IsInRange : Command → Type 0
 IsInRange Judge = Unit {0}
 IsInRange Start = Unit {0}
-IsInRange (Solve edit_workers bound_workers rounds seed) = (edit_workers ≤ 16) × (bound_workers ≤ 16) × ((edit_workers ≡ 0) ⊎ (rounds ≡ 0))
+IsInRange (Solve edit_workers bound_workers rounds seed) = (edit_workers ≤ 16) × (bound_workers ≤ 16) × (rounds ≤ 1000)
 IsInRange Check = Unit {0}
 IsInRange (Part name) = Unit {0}
 IsInRange Weave = Unit {0}
+IsInRange (Rewind k) = k ≤ 200000
+IsInRange EditSession = Unit {0}
 IsInRange (Gen kind n seed) = (3 ≤ n) × (n ≤ 5000)
 IsInRange (GenSolve kind n seed) = (3 ≤ n) × (n ≤ 5000)
 
@@ -59,6 +65,8 @@ reads_input (Solve edit_workers bound_workers rounds seed) = true
 reads_input Check = true
 reads_input (Part name) = true
 reads_input Weave = true
+reads_input (Rewind k) = true
+reads_input EditSession = true
 reads_input (Gen kind n seed) = false
 reads_input (GenSolve kind n seed) = false
 
@@ -70,6 +78,8 @@ IsAnswerTo (Solve edit_workers bound_workers rounds seed) input verdict text = I
 IsAnswerTo Check input verdict text = IsCheckAnswer input verdict text
 IsAnswerTo (Part name) input verdict text = IsPartAnswer name input verdict text
 IsAnswerTo Weave input verdict text = IsWeaveAnswer input verdict text
+IsAnswerTo (Rewind k) input verdict text = IsRewindAnswer k input verdict text
+IsAnswerTo EditSession input verdict text = IsEditAnswer input verdict text
 IsAnswerTo (Gen kind n seed) input verdict text = (verdict ≡ Done) × IsGenerated kind n seed text
 IsAnswerTo (GenSolve kind n seed) input verdict text = (verdict ≡ Done) × IsSolvedLine kind n seed text
 
@@ -108,6 +118,14 @@ HasReport input = (length input ≤ most_input) × ((r : Report) × GivesReport 
 abbrev pub HasScript : List ℕ → Type 0
 HasScript input = (length input ≤ most_input) × ((S : List Point) × (list : List Step) × IsScript input S list)
 
+-- the input is a report with at least k commits, within the limit
+abbrev pub HasReportTo : ℕ → List ℕ → Type 0
+HasReportTo k input = (length input ≤ most_input) × ((r : Report) × ReachesReport k input r)
+
+-- the input is a session of edits, within the limit
+abbrev pub HasSession : List ℕ → Type 0
+HasSession input = (length input ≤ most_input) × ((S : List Point) × (D : List Costed) × (list : List EditCommand) × IsSession input S D list)
+
 -- the input has its reading for the command, within the limit
 abbrev pub HasInput : Command → List ℕ → Type 0
 HasInput Judge input = (length input ≤ most_input) × ((S : List Point) × (K : List Pair) × HasBundle input S K)
@@ -116,5 +134,7 @@ HasInput (Solve edit_workers bound_workers rounds seed) input = HasInstance inpu
 HasInput Check input = HasReport input
 HasInput (Part name) input = HasReport input
 HasInput Weave input = HasScript input
+HasInput (Rewind k) input = HasReportTo k input
+HasInput EditSession input = HasSession input
 HasInput (Gen kind n seed) input = Unit {0}
 HasInput (GenSolve kind n seed) input = Unit {0}

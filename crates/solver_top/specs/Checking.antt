@@ -10,6 +10,7 @@ use Rattle.report_answers.specs.declared.answer.Told.{Told}
 use Rattle.report_answers.specs.declared.answer.Told.TheVariants as told
 use Rattle.report_answers.specs.Answers.{IsChecked, IsPart}
 use Rattle.report_answers.specs.Lines.{valid_line}
+use Rattle.report_answers.specs.Rewinding.{IsRewound}
 use Rattle.solver_top.specs.declared.status.Verdict.{Verdict}
 use Rattle.solver_top.specs.declared.status.Verdict.TheVariants.{Done, No, Refused}
 
@@ -25,6 +26,10 @@ IsCheckAnswer input verdict text = (told : Told) × (verdict ≡ verdict_of told
 -- one part of the report that the input is, or the refusal
 abbrev pub IsPartAnswer : Part → List ℕ → Verdict → List ℕ → Type 0
 IsPartAnswer part input verdict text = (told : Told) × (verdict ≡ verdict_of told) × IsPart part input told text
+
+-- what was kept after the first k commits of the report that the input is, or that the report isn't right, or the refusal
+abbrev pub IsRewindAnswer : ℕ → List ℕ → Verdict → List ℕ → Type 0
+IsRewindAnswer k input verdict text = (told : Told) × (verdict ≡ verdict_of told) × IsRewound k input told text
 
 -- the input is a report of which the reader may rest on this, and its line was written
 abbrev pub TellsReport : List ℕ → (old new : Option (List ℕ)) → Type 0

@@ -8,6 +8,7 @@ pub mod Solving
 pub mod Generating
 pub mod Checking
 pub mod Weaving
+pub mod Editing
 pub mod Answers
 pub mod Readable
 pub mod Reading

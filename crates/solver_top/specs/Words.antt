@@ -5,7 +5,7 @@ use Rattle.std.specs.declared.alloc.Global.{Global}
 use Rattle.generator.specs.declared.kinds.Kind.{Kind}
 use Rattle.generator.specs.Names.{kind_word}
 use Rattle.solver_top.specs.declared.words.Command.{Command}
-use Rattle.solver_top.specs.declared.words.Command.TheVariants.{Judge, Start, Solve, Check, Part, Weave, Gen, GenSolve}
+use Rattle.solver_top.specs.declared.words.Command.TheVariants.{Judge, Start, Solve, Check, Part, Weave, Rewind, EditSession, Gen, GenSolve}
 use Rattle.report_io.specs.declared.report.Part.{Part as ReportPart}
 use Rattle.report_io.specs.declared.report.Part.TheVariants as part
 
@@ -25,6 +25,9 @@ IsSeed word = (seed : ℕ) × (seed < 2 ^ 64) × (word ≡ decimal seed)
 abbrev pub IsWorkers : List ℕ → Type 0
 IsWorkers word = (n : ℕ) × (n ≤ 16) × (word ≡ decimal n)
 
+abbrev pub IsCommits : List ℕ → Type 0
+IsCommits word = (n : ℕ) × (n ≤ 200000) × (word ≡ decimal n)
+
 -- a part of a report by its word
 abbrev pub part_word : ReportPart → List ℕ
 part_word part.Instance = codes "instance"
@@ -36,16 +39,18 @@ part_word part.Summary = codes "summary"
 abbrev pub IsPartWord : List ℕ → Type 0
 IsPartWord word = (name : ReportPart) × (word ≡ part_word name)
 
--- rounds, behind the number of edit workers: these make none yet, so beside them there are none
-abbrev pub IsRounds : (edit_workers word : List ℕ) → Type 0
-IsRounds edit_workers word = (n : ℕ) × (n ≤ 1000) × ((edit_workers ≡ decimal 0) ⊎ (n ≡ 0)) × (word ≡ decimal n)
+abbrev pub IsRounds : List ℕ → Type 0
+IsRounds word = (n : ℕ) × (n ≤ 1000) × (word ≡ decimal n)
 
 -- what the lines have behind their first word
-abbrev pub solve_words : List (List ℕ) → List (List ℕ → Type 0)
-solve_words words = IsWorkers ∷ IsWorkers ∷ IsRounds (slice_index_or words 0 []) ∷ IsSeed ∷ []
+abbrev pub solve_words : List (List ℕ → Type 0)
+solve_words = IsWorkers ∷ IsWorkers ∷ IsRounds ∷ IsSeed ∷ []
 
 abbrev pub part_words : List (List ℕ → Type 0)
 part_words = IsPartWord ∷ []
+
+abbrev pub rewind_words : List (List ℕ → Type 0)
+rewind_words = IsCommits ∷ []
 
 abbrev pub gen_words : List (List ℕ → Type 0)
 gen_words = IsKind ∷ IsCount ∷ IsSeed ∷ []
@@ -57,17 +62,20 @@ Begins [] (word ∷ words) = ⊥
 Begins (May ∷ line) (word ∷ words) = May word × Begins line words
 
 -- what holds of the words behind a first word, by what its lines may have there: the lines are `judge`, `start`,
--- `solve E B ROUNDS SEED`, `check`, `part NAME`, `weave`, `gen KIND N SEED` and `gen-solve KIND N SEED`
+-- `solve E B ROUNDS SEED`, `check`, `part NAME`, `weave`, `rewind K`, `edit`, `gen KIND N SEED` and
+-- `gen-solve KIND N SEED`
 abbrev pub OfALine : (List (List ℕ → Type 0) → List (List ℕ) → Type 0) → List ℕ → List (List ℕ) → Type 0
 OfALine Holds first words =
     MatchBool (bytes_eq first (codes "judge")) (Holds [] words)
     (MatchBool (bytes_eq first (codes "start")) (Holds [] words)
-    (MatchBool (bytes_eq first (codes "solve")) (Holds (solve_words words) words)
+    (MatchBool (bytes_eq first (codes "solve")) (Holds solve_words words)
     (MatchBool (bytes_eq first (codes "check")) (Holds [] words)
     (MatchBool (bytes_eq first (codes "part")) (Holds part_words words)
     (MatchBool (bytes_eq first (codes "weave")) (Holds [] words)
+    (MatchBool (bytes_eq first (codes "rewind")) (Holds rewind_words words)
+    (MatchBool (bytes_eq first (codes "edit")) (Holds [] words)
     (MatchBool (bytes_eq first (codes "gen")) (Holds gen_words words)
-    (MatchBool (bytes_eq first (codes "gen-solve")) (Holds gen_words words) ⊥)))))))
+    (MatchBool (bytes_eq first (codes "gen-solve")) (Holds gen_words words) ⊥)))))))))
 
 -- the words begin some line
 abbrev pub BeginsALine : List (List ℕ) → Type 0
@@ -80,10 +88,12 @@ IsLineOf words Judge = words ≡ codes "judge" ∷ []
 IsLineOf words Start = words ≡ codes "start" ∷ []
 IsLineOf words (Solve edit_workers bound_workers rounds seed) =
     (words ≡ codes "solve" ∷ decimal edit_workers ∷ decimal bound_workers ∷ decimal rounds ∷ decimal seed ∷ [])
-    × (edit_workers ≤ 16) × (bound_workers ≤ 16) × (rounds ≤ 1000) × ((edit_workers ≡ 0) ⊎ (rounds ≡ 0)) × (seed < 2 ^ 64)
+    × (edit_workers ≤ 16) × (bound_workers ≤ 16) × (rounds ≤ 1000) × (seed < 2 ^ 64)
 IsLineOf words Check = words ≡ codes "check" ∷ []
 IsLineOf words (Part name) = words ≡ codes "part" ∷ part_word name ∷ []
 IsLineOf words Weave = words ≡ codes "weave" ∷ []
+IsLineOf words (Rewind k) = (words ≡ codes "rewind" ∷ decimal k ∷ []) × (k ≤ 200000)
+IsLineOf words EditSession = words ≡ codes "edit" ∷ []
 IsLineOf words (GenSolve kind n seed) = (words ≡ codes "gen-solve" ∷ kind_word kind ∷ decimal n ∷ decimal seed ∷ []) × (3 ≤ n) × (n ≤ 5000) × (seed < 2 ^ 64)
 IsLineOf words (Gen kind n seed) = (words ≡ codes "gen" ∷ kind_word kind ∷ decimal n ∷ decimal seed ∷ []) × (3 ≤ n) × (n ≤ 5000) × (seed < 2 ^ 64)
 

@@ -1,6 +1,7 @@
 // The commands, each a function from what was read to its text and verdict.
 
 pub mod checking;
+pub mod editing;
 pub mod generating;
 pub mod judging;
 pub mod refusing;

@@ -5,6 +5,7 @@ ghost use Rattle.report_io.specs.Report.{report_text};
 ghost use Rattle.report_defs.specs.Relation.{IsRight};
 ghost use Rattle.report_answers.specs.Answers.{IsRefusedReport};
 ghost use Rattle.report_answers.specs.Lines.{valid_line};
+ghost use Rattle.report_answers.specs.Rewinding.{IsTooLate};
 ghost use Rattle.solve_report.specs.Reports.{IsSolvedReport};
 ghost use Rattle.solver_top.specs.Words.{IsLineOf};
 ghost use Rattle.solver_top.specs.Answers.{HasInput};
@@ -13,6 +14,7 @@ ghost use Rattle.solver_top.specs.Judging.{IsRefused};
 ghost use Rattle.solver_top.specs.Readable.{IsReadable};
 ghost use Rattle.solver_top.specs.Starting.{IsRefusedInstance};
 ghost use Rattle.solver_top.specs.Weaving.{IsRefusedScript};
+ghost use Rattle.solver_top.specs.Editing.{IsRefusedSession};
 
 use crate::status::Verdict;
 use crate::words::Command;
@@ -26,6 +28,9 @@ pub fn read_or_refused()
     ensures start { (input text : List ℕ) → HasInput Command.Start input → ¬ IsRefusedInstance input text }
     ensures check { (input text : List ℕ) → HasInput Command.Check input → ¬ IsRefusedReport input text }
     ensures weave { (input text : List ℕ) → HasInput Command.Weave input → ¬ IsRefusedScript input text }
+    ensures rewind { (k : ℕ) (input text : List ℕ) → HasInput (Command.Rewind k) input →
+        (¬ IsRefusedReport input text) × (¬ IsTooLate k input text) }
+    ensures edit { (input text : List ℕ) → HasInput Command.EditSession input → ¬ IsRefusedSession input text }
 {}
 
 /// Words are the line of one command alone.

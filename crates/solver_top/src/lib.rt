@@ -15,6 +15,7 @@ mod words;
 pub use answers::Answer;
 pub use arguments::words_after_name;
 pub use bundles::{Bundle, read_bundle};
+pub use commands::editing::edited;
 pub use commands::generating::generated;
 pub use commands::judging::judged;
 pub use commands::refusing::refused_instance;

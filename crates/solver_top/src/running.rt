@@ -20,13 +20,15 @@ ghost use Rattle.solver_top.specs.Answers.{HasInput, reads_input, most_input};
 ghost use Rattle.solver_top.specs.Judging.{IsJudged};
 ghost use Rattle.solver_top.specs.Starting.{IsStarted};
 ghost use Rattle.solver_top.specs.Solving.{IsSolveAnswer, IsSolvedFrom, Reports};
-ghost use Rattle.solver_top.specs.Checking.{IsCheckAnswer, IsPartAnswer, TellsReport};
+ghost use Rattle.solver_top.specs.Checking.{IsCheckAnswer, IsPartAnswer, IsRewindAnswer, TellsReport};
+ghost use Rattle.solver_top.specs.Editing.{IsEditAnswer};
 ghost use Rattle.solver_top.specs.Weaving.{IsWeaveAnswer};
 ghost use Rattle.solver_top.specs.Generating.{IsGenerated};
 ghost use Rattle.report_io.specs.declared.report.Part.{Part as ReportPart};
 
 use crate::answers::Answer;
-use crate::commands::checking::{checked, parted};
+use crate::commands::checking::{checked, parted, rewound_to};
+use crate::commands::editing::edited;
 use crate::commands::generating::generated;
 use crate::commands::judging::judged;
 use crate::commands::solving::{solved, solved_made};
@@ -151,14 +153,14 @@ fn input_of<I: Source, L: Ledger>(
     }
 }
 
-// What a command answers to an input that was read, or to none. Commands with workers take the runtime; those whose
-// workers share a board will take the gate.
+// What a command answers to an input that was read, or to none. Commands with workers take the runtime, and those whose
+// workers share a board the gate.
 fn work<R: Threads + Sync, G: Gate + Sync>(
     rt: &R,
     alloc: Global,
     command: Command,
     bytes: &[u8],
-    _gate: &G,
+    gate: &G,
 ) -> Result<Answer, NoMemory>
     requires { IsInRange command }
     ensures { IfOk result (λ answer. IsAnswerTo command bytes.now answer.verdict answer.text.items) }
@@ -177,11 +179,13 @@ fn work<R: Threads + Sync, G: Gate + Sync>(
                 rounds,
                 seed,
             };
-            solved(rt, alloc, bytes, edit_workers, search)
+            solved(rt, alloc, bytes, edit_workers, search, gate)
         }
         Command::Check => checked(alloc, bytes),
         Command::Part(part) => parted(alloc, bytes, part),
         Command::Weave => woven(alloc, bytes),
+        Command::Rewind { commits } => rewound_to(alloc, bytes, commits),
+        Command::EditSession => edited(alloc, bytes),
         Command::Gen { kind, n, seed } => generated(alloc, kind, n, seed),
         Command::GenSolve { kind, n, seed } => solved_made(rt, alloc, kind, n, seed),
     }
@@ -282,6 +286,13 @@ pub fn run<R: Threads + Sync, I: Source, O: Sink, G: Gate + Sync>(
         × IsWritten result verdict text (O.contents out.old) (O.contents out.new) }
     ensures weave { (xs : List ℕ) → IsLineOf (words_of words.now) Command.Weave → I.left input.old ≡ Some xs →
         HasText result → (verdict : Verdict) × (text : List ℕ) × ReadsAll IsWeaveAnswer xs (I.left input.new) verdict text
+        × IsWritten result verdict text (O.contents out.old) (O.contents out.new) }
+    ensures rewind { (xs : List ℕ) (k : ℕ) → IsLineOf (words_of words.now) (Command.Rewind k) →
+        I.left input.old ≡ Some xs → HasText result → (verdict : Verdict) × (text : List ℕ)
+        × ReadsAll (IsRewindAnswer k) xs (I.left input.new) verdict text
+        × IsWritten result verdict text (O.contents out.old) (O.contents out.new) }
+    ensures edit { (xs : List ℕ) → IsLineOf (words_of words.now) Command.EditSession → I.left input.old ≡ Some xs →
+        HasText result → (verdict : Verdict) × (text : List ℕ) × ReadsAll IsEditAnswer xs (I.left input.new) verdict text
         × IsWritten result verdict text (O.contents out.old) (O.contents out.new) }
     ensures generated_solved { (kind : Kind) (n seed : ℕ) →
         IsLineOf (words_of words.now) (Command.GenSolve kind n seed) →

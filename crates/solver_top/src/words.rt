@@ -1,6 +1,7 @@
 // The words of the command line.
 
 mod made;
+mod moments;
 mod numbers;
 mod part;
 mod solve;
@@ -11,6 +12,7 @@ ghost use Rattle.solver_top.specs.Words.{words_of, IsLineOf, IsFaultAt};
 ghost use Rattle.solver_top.specs.WordFaults.{IsLineFaultAt};
 
 use self::made::{after_gen, after_gen_solve};
+use self::moments::after_rewind;
 use self::part::after_part;
 use self::solve::after_solve;
 use generator::Kind;
@@ -29,7 +31,7 @@ pub enum Command {
         edit_workers: u32,
         /// How many bound workers, at most 16.
         bound_workers: u32,
-        /// How many rounds each worker makes, at most 1,000; so far 0 where there are edit workers.
+        /// How many rounds each worker makes, at most 1,000.
         rounds: u32,
         /// Any number of 64 bits.
         seed: u64,
@@ -40,6 +42,13 @@ pub enum Command {
     Part(Part),
     /// `weave`: plays a script of several callers on one core.
     Weave,
+    /// `rewind K`: writes the segments that were kept after the first commits of a report.
+    Rewind {
+        /// How many commits, at most 200,000.
+        commits: u32,
+    },
+    /// `edit`: plays a session of edits with undo on one core.
+    EditSession,
     /// `gen KIND N SEED`: writes an instance made from a number.
     Gen {
         /// The kind, by its word.
@@ -68,6 +77,7 @@ impl Command {
         match self {
             Command::Judge | Command::Start | Command::Solve { .. } => true,
             Command::Check | Command::Part(_) | Command::Weave => true,
+            Command::Rewind { .. } | Command::EditSession => true,
             Command::Gen { .. } | Command::GenSolve { .. } => false,
         }
     }
@@ -96,6 +106,8 @@ fn by_first_word(words: &[String]) -> Result<Command, usize>
             "check" => after_check(rest),
             "part" => after_part(rest),
             "weave" => after_weave(rest),
+            "rewind" => after_rewind(rest),
+            "edit" => after_edit(rest),
             "gen" => after_gen(rest),
             "gen-solve" => after_gen_solve(rest),
             _ => Err(0),
@@ -146,6 +158,18 @@ fn after_weave(rest: &[String]) -> Result<Command, usize>
 {
     if rest.is_empty() {
         Ok(Command::Weave)
+    } else {
+        Err(1)
+    }
+}
+
+// What stands behind `edit`.
+fn after_edit(rest: &[String]) -> Result<Command, usize>
+    ensures ok { IfOk result (IsLineOf (codes "edit" ∷ words_of rest.now)) }
+    ensures err { IfErr result (IsLineFaultAt (codes "edit" ∷ words_of rest.now)) }
+{
+    if rest.is_empty() {
+        Ok(Command::EditSession)
     } else {
         Err(1)
     }

@@ -1,11 +1,22 @@
--- A text that is a script isn't refused.
-use Rattle.std.proofs.Common.{◌≡◌, ◌≢◌, ℕ, List, length, map, Ok, Err, Result, sym, ◌∙◌, ap, subst, refl}
+-- A text that is a script isn't refused; edits that were read are of the points.
+use Rattle.std.proofs.Common.{◌≡◌, ◌≢◌, ◌⊎◌, inl, inr, ℕ, ◌&&◌, nat_le, Bool, true, false, cond, List, length, map, Option, Some, None, Ok, Err, Result, sym, ◌∙◌, ap, subst, refl}
 use Rattle.serde_json.specs.Data.{Data}
 use Rattle.plane.specs.declared.coordinates.Point.{Point}
 use Rattle.text_defs.specs.Instances.{instance_in}
+use Rattle.text_defs.specs.Items.{array_list, all_of}
+use Rattle.text_defs.proofs.laws.IsPlain.{Each}
 use Rattle.json_text.proofs.Laws.{ok_same, ok_err}
 use Rattle.instance_io.specs.Refusal as instances
 use Rattle.instance_io.proofs.laws.Readings.{gives_no_fault, gives_once}
+use Rattle.journal_defs.specs.declared.edit.Edit.{Edit}
+use Rattle.journal_defs.specs.declared.edit.Edit.TheVariants.{Drop, Keep, Flip}
+use Rattle.report_io.specs.Parts.{EditItem}
+use Rattle.report_io.specs.Reading.{edit_of, edits_in, edits_of}
+use Rattle.report_io.specs.Report.{edit_item}
+use Rattle.report_io.proofs.laws.PartLimits.{IsEditItem}
+use Rattle.report_io.proofs.laws.PartsWithin.{some_of, edit_of-some, all_of-some}
+use Rattle.report_io.proofs.laws.Within.{each_told}
+use Rattle.replay.specs.Applied.{IsWithin, AreWithin}
 use Rattle.weave.specs.declared.step.Step.{Step}
 use Rattle.weave_script.specs.declared.script.ScriptFault.{ScriptFault}
 use Rattle.weave_script.specs.declared.script.ScriptFault.TheVariants.{NotJson, NoInstance, NoSteps, Instance, TooManySteps, BadStep, NoMemory}
@@ -41,3 +52,28 @@ script_not_refused input S list (Instance f) (items, has, is) named (d, others, 
 script_not_refused input S list (TooManySteps count) script named h = no_steps_fault input S list (TooManySteps count) script h
 script_not_refused input S list (BadStep k) script named h = no_steps_fault input S list (BadStep k) script h
 script_not_refused input S list NoMemory script named h = named refl
+
+-- ---- edits
+
+pub where_of : {A : Type 0} (b : Bool) (o : Option A) (y : A) → cond b o None ≡ Some y → o ≡ Some y
+where_of true o y h = h
+where_of false o y h = absurd (cc)
+
+pub either_of : {A : Type 0} (b : Bool) (x y : Option A) (z : A) → cond b x y ≡ Some z → (x ≡ Some z) ⊎ (y ≡ Some z)
+either_of true x y z h = inl h
+either_of false x y z h = inr h
+
+edits_in-some : (n : ℕ) (ds : List Data) (edits : List EditItem) → edits_in n ds ≡ Some edits → Each (IsEditItem n) edits
+edits_in-some n ds edits h =
+    (all_of-some (IsEditItem n) (edit_of n) ds edits (edit_of-some n) (where_of (nat_le 1 (length ds) && nat_le (length ds) 8) (all_of (edit_of n) ds) edits h)).0
+
+pub edits_of-some : (n : ℕ) (d : Data) (edits : List EditItem) → edits_of n d ≡ Some edits → Each (IsEditItem n) edits
+edits_of-some n d edits h = let (ds, at, is) = some_of (edits_in n) (array_list d) edits h in edits_in-some n ds edits is
+
+edit_within : (n : ℕ) (e : Edit) → IsEditItem n (edit_item e) → IsWithin n e
+edit_within n (Drop e) h = h.1
+edit_within n (Keep e) h = h.1
+edit_within n (Flip e f) h = (h.0.1, h.1.1)
+
+pub edits_within : (n : ℕ) (edits : List Edit) → Each (IsEditItem n) (map edit_item edits) → AreWithin n edits
+edits_within n edits h = each_told (IsWithin n) (IsEditItem n) edit_item edits (edit_within n) h

@@ -1,44 +1,25 @@
 -- Steps that were read are within the limits.
-use Rattle.std.proofs.Common.{◌≡◌, ℕ, ◌≤◌, ◌⊎◌, ◌&&◌, nat_le, Bool, true, false, List, [], ◌∷◌, map, length, Option, Some, None, Result, Ok, All, cond, codes, option_map, option_and_then, inl, inr, subst, arith}
+use Rattle.std.proofs.Common.{◌≡◌, ℕ, ◌≤◌, List, [], ◌∷◌, map, length, Option, Some, None, Ok, All, cond, codes, option_map, inl, inr, subst, arith}
 use Rattle.std.proofs.lemmas.List.{length-map}
 use Rattle.serde_json.specs.Data.{Data}
-use Rattle.text_defs.specs.Items.{number_within, is_tag, array_list, each_or_fault, all_of}
+use Rattle.text_defs.specs.Items.{number_within, is_tag, array_list, each_or_fault}
 use Rattle.text_defs.proofs.laws.IsPlain.{Each}
-use Rattle.journal_defs.specs.declared.edit.Edit.{Edit}
-use Rattle.journal_defs.specs.declared.edit.Edit.TheVariants.{Drop, Keep, Flip}
-use Rattle.report_io.specs.Parts.{EditItem}
-use Rattle.report_io.specs.Reading.{edit_of, edits_in, edits_of}
-use Rattle.report_io.specs.Report.{edit_item}
+use Rattle.report_io.specs.Reading.{edits_of}
 use Rattle.report_io.proofs.laws.PartLimits.{IsEditItem}
-use Rattle.report_io.proofs.laws.PartsWithin.{some_of, mapped_of, number_within-some, edit_of-some, all_of-some, each_or_fault-ok, unless_many-ok}
+use Rattle.report_io.proofs.laws.PartsWithin.{some_of, mapped_of, number_within-some, each_or_fault-ok, unless_many-ok}
 use Rattle.report_io.proofs.laws.Within.{each_told}
-use Rattle.replay.specs.Applied.{IsWithin}
 use Rattle.weave.specs.declared.step.Step.{Step}
 use Rattle.weave.specs.declared.step.Step.TheVariants.{Take, Append, Back}
 use Rattle.weave.specs.Answers.{IsStepOf}
 use Rattle.weave_script.specs.declared.script.ScriptFault.TheVariants.{TooManySteps, BadStep}
 use Rattle.weave_script.specs.Reading.{StepItem, taken, appended, returned, place, tagged, step_in, step_of, step_items}
 use Rattle.weave_script.specs.Scripts.{step_item}
+use Rattle.weave_script.proofs.Laws.{where_of, either_of, edits_of-some, edits_within}
 
 abbrev IsStepItem : ℕ → StepItem → Type 0
 IsStepItem n (taken c v) = (c ≤ 16) × (v ≤ n)
 IsStepItem n (appended c edits) = (c ≤ 16) × Each (IsEditItem n) edits
 IsStepItem n (returned c v) = (c ≤ 16) × (v ≤ n)
-
-where_of : {A : Type 0} (b : Bool) (o : Option A) (y : A) → cond b o None ≡ Some y → o ≡ Some y
-where_of true o y h = h
-where_of false o y h = absurd (cc)
-
-either_of : {A : Type 0} (b : Bool) (x y : Option A) (z : A) → cond b x y ≡ Some z → (x ≡ Some z) ⊎ (y ≡ Some z)
-either_of true x y z h = inl h
-either_of false x y z h = inr h
-
-edits_in-some : (n : ℕ) (ds : List Data) (edits : List EditItem) → edits_in n ds ≡ Some edits → Each (IsEditItem n) edits
-edits_in-some n ds edits h =
-    (all_of-some (IsEditItem n) (edit_of n) ds edits (edit_of-some n) (where_of (nat_le 1 (length ds) && nat_le (length ds) 8) (all_of (edit_of n) ds) edits h)).0
-
-edits_of-some : (n : ℕ) (d : Data) (edits : List EditItem) → edits_of n d ≡ Some edits → Each (IsEditItem n) edits
-edits_of-some n d edits h = let (ds, at, is) = some_of (edits_in n) (array_list d) edits h in edits_in-some n ds edits is
 
 -- a step with a place
 placed : (n c : ℕ) (make : ℕ → StepItem) (d : Data) (x : StepItem) → ((v : ℕ) → v ≤ n → IsStepItem n (make v)) → option_map make (place n d) ≡ Some x → IsStepItem n x
@@ -78,14 +59,9 @@ step_in-some n (t ∷ c ∷ d ∷ e ∷ more) x h = absurd (none_of x h)
 step_of-some : (n : ℕ) (d : Data) (x : StepItem) → step_of n d ≡ Some x → IsStepItem n x
 step_of-some n d x h = let (ds, at, is) = some_of (step_in n) (array_list d) x h in step_in-some n ds x is
 
-edit_within : (n : ℕ) (e : Edit) → IsEditItem n (edit_item e) → IsWithin n e
-edit_within n (Drop e) h = h.1
-edit_within n (Keep e) h = h.1
-edit_within n (Flip e f) h = (h.0.1, h.1.1)
-
 step_within : (n : ℕ) (s : Step) → IsStepItem n (step_item s) → IsStepOf n s
 step_within n (Take c v) h = h
-step_within n (Append c edits) h = (h.0, each_told (IsWithin n) (IsEditItem n) edit_item edits (edit_within n) h.1)
+step_within n (Append c edits) h = (h.0, edits_within n edits h.1)
 step_within n (Back c v) h = h
 
 -- steps that were read are steps, and few

@@ -11,7 +11,8 @@ mod steps;
 #[cfg(test)]
 mod tests;
 
-pub use lines::refused_line;
-pub use playing::script_text;
+pub use edits::edits_of;
+pub use lines::{end_line, refused_line, why_text};
+pub use playing::{core_of, push_end, script_text};
 pub use reading::read_script;
 pub use script::{Script, ScriptFault};

@@ -8,7 +8,8 @@ use journal_defs::Why;
 use std::alloc::{AllocError, Global};
 use weave::StepAnswer;
 
-fn why_text(alloc: Global, why: Why) -> Result<String, AllocError>
+/// Why an edit isn't legal: the word, and the number where it has one.
+pub fn why_text(alloc: Global, why: Why) -> Result<String, AllocError>
     ensures { IfOk result (λ text. string_bytes text ≡ why_text why) }
 {
     match why {

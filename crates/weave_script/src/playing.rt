@@ -16,8 +16,8 @@ use std::alloc::Global;
 use triangulate::start;
 use weave::{StepAnswer, run_steps};
 
-// The core of the start of the points, unswept.
-fn core_of(alloc: Global, points: Points) -> Result<Core, NoMemory>
+/// The core of the start of the points, unswept.
+pub fn core_of(alloc: Global, points: Points) -> Result<Core, NoMemory>
     ensures points { IfOk result (λ core. core.points ≡ points) }
     ensures start { IfOk result (λ core. IsSortedStart points core.start) }
     ensures journal { IfOk result (λ core. core.journal ≡ []) }
@@ -42,8 +42,8 @@ fn answer_lines(alloc: Global, answers: &[StepAnswer]) -> Result<Vec<u8>, NoMemo
     Ok(text)
 }
 
-// Appends the line of the end.
-fn push_end(text: &mut Vec<u8>, alloc: Global, core: &Core) -> Result<(), NoMemory>
+/// Appends the line of the end: how many commits the journal of the core has, and how many segments are kept.
+pub fn push_end(text: &mut Vec<u8>, alloc: Global, core: &Core) -> Result<(), NoMemory>
     ensures { IfOk result (λ _. text.new.items
         ≡ text.old.items ++ end_line (length core.now.journal) (length (state_of core.now).kept)) }
 {

@@ -154,7 +154,7 @@ const REFUSED: [(&str, Status, &str); 15] = [
     ("solve 01 0 0 1", Status::Usage, "usage 1\n"),
     ("solve 0 17 0 1", Status::Usage, "usage 2\n"),
     ("solve 0 0 1001 1", Status::Usage, "usage 3\n"),
-    ("solve 1 0 1 1", Status::Usage, "usage 3\n"),
+    ("solve 1 0 1001 1", Status::Usage, "usage 3\n"),
     ("solve 1 0 0", Status::Usage, "usage 4\n"),
     ("solve 0 0 0 -1", Status::Usage, "usage 4\n"),
     ("solve 0 0 0 1 2", Status::Usage, "usage 5\n"),
@@ -163,7 +163,7 @@ const REFUSED: [(&str, Status, &str); 15] = [
     ("gen-solve ring 5 1 1", Status::Usage, "usage 4\n"),
 ];
 
-// Refusals of `solve`, and words of both commands. E and ROUNDS of 1 and more together are no line yet.
+// Refusals of `solve`, and words of both commands.
 #[test]
 fn refuses_to_solve(rt: HostRuntime) -> Result<(), Fail> {
     for (line, status, text) in REFUSED {

@@ -1,7 +1,7 @@
 // Words that are numbers.
-ghost use Rattle.std.specs.Prelude.{◌≡◌, ◌≢◌, ◌↔◌, ℕ, ◌<◌, ◌≤◌, ◌⊎◌, IsTrue, MatchOption};
+ghost use Rattle.std.specs.Prelude.{◌≡◌, ◌≢◌, ◌↔◌, ℕ, ◌<◌, ◌≤◌, IsTrue, MatchOption};
 ghost use Rattle.std.specs.Fmt.{decimal};
-ghost use Rattle.solver_top.specs.Words.{IsCount, IsRounds, IsSeed, IsWorkers};
+ghost use Rattle.solver_top.specs.Words.{IsCommits, IsCount, IsRounds, IsSeed, IsWorkers};
 
 use itoa::Buffer;
 
@@ -52,13 +52,21 @@ pub fn workers_of(word: &str) -> Option<u32>
     }
 }
 
-// The number of rounds that a word is, beside so many edit workers.
-pub fn rounds_of(edit_workers: u32, word: &str) -> Option<u32>
-    ensures { MatchOption result (¬ IsRounds (decimal edit_workers) word.now)
-        (λ n. (n ≤ 1000) × ((edit_workers ≡ 0) ⊎ (n ≡ 0)) × (word.now ≡ decimal n)) }
+// The number of commits that a word is.
+pub fn commits_of(word: &str) -> Option<u32>
+    ensures { MatchOption result (¬ IsCommits word.now) (λ n. (n ≤ 200000) × (word.now ≡ decimal n)) }
 {
-    let most = if edit_workers == 0 { 1000 } else { 0 };
-    match number(word, 0, most) {
+    match number(word, 0, 200_000) {
+        Some(n) => Some(n as u32),
+        None => None,
+    }
+}
+
+// The number of rounds that a word is.
+pub fn rounds_of(word: &str) -> Option<u32>
+    ensures { MatchOption result (¬ IsRounds word.now) (λ n. (n ≤ 1000) × (word.now ≡ decimal n)) }
+{
+    match number(word, 0, 1000) {
         Some(n) => Some(n as u32),
         None => None,
     }

@@ -1,5 +1,5 @@
 // The words behind `solve`: E B ROUNDS SEED.
-ghost use Rattle.std.specs.Prelude.{◌≡◌, ◌≤◌, ◌∷◌, ◌⊎◌, codes, IfOk, IfErr};
+ghost use Rattle.std.specs.Prelude.{◌≤◌, ◌∷◌, codes, IfOk, IfErr};
 ghost use Rattle.std.specs.Fmt.{decimal};
 ghost use Rattle.solver_top.specs.Words.{words_of, IsLineOf};
 ghost use Rattle.solver_top.specs.WordFaults.{IsLineFaultAt};
@@ -51,7 +51,7 @@ fn after_bound_workers(
 {
     match rest {
         [] => Err(3),
-        [word, rest @ ..] => match rounds_of(edit_workers, word.as_str()) {
+        [word, rest @ ..] => match rounds_of(word.as_str()) {
             Some(rounds) => after_rounds(edit_workers, bound_workers, rounds, rest),
             None => Err(3),
         },
@@ -68,7 +68,6 @@ fn after_rounds(
     requires edit_workers { edit_workers ≤ 16 }
     requires bound_workers { bound_workers ≤ 16 }
     requires rounds { rounds ≤ 1000 }
-    requires none { (edit_workers ≡ 0) ⊎ (rounds ≡ 0) }
     ensures ok { IfOk result (IsLineOf (codes "solve" ∷ decimal edit_workers ∷ decimal bound_workers
         ∷ decimal rounds ∷ words_of rest.now)) }
     ensures err { IfErr result (IsLineFaultAt (codes "solve" ∷ decimal edit_workers ∷ decimal bound_workers
@@ -94,7 +93,6 @@ fn after_seed(
     requires edit_workers { edit_workers ≤ 16 }
     requires bound_workers { bound_workers ≤ 16 }
     requires rounds { rounds ≤ 1000 }
-    requires none { (edit_workers ≡ 0) ⊎ (rounds ≡ 0) }
     ensures ok { IfOk result (IsLineOf (codes "solve" ∷ decimal edit_workers ∷ decimal bound_workers
         ∷ decimal rounds ∷ decimal seed ∷ words_of rest.now)) }
     ensures err { IfErr result (IsLineFaultAt (codes "solve" ∷ decimal edit_workers ∷ decimal bound_workers

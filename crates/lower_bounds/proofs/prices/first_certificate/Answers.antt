@@ -3,7 +3,7 @@ use Rattle.price_defs.specs.declared.row.Row.{Row}
 use Rattle.price_defs.specs.Floor.{IsFloorCertificate}
 use Rattle.price_defs.specs.Loads.{IsValid}
 use Rattle.price_defs.specs.Raising.{AreRaised}
-use Rattle.lower_bounds.specs.Prices.{IsFirst}
+use Rattle.lower_bounds.specs.Found.{IsFirst}
 use Rattle.raise_laws.proofs.laws.Raises.{grown_lost}
 use Rattle.lower_bounds.proofs.prices.first_certificate.Goals as goal
 

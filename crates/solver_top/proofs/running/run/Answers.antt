@@ -1,5 +1,5 @@
 use Rattle.std.proofs.Common.{inl, inr, refl}
-use Rattle.solver_top.specs.declared.words.Command.TheVariants.{Judge, Start, Solve, Check, Part, Weave, Gen, GenSolve}
+use Rattle.solver_top.specs.declared.words.Command.TheVariants.{Judge, Start, Solve, Check, Part, Weave, Rewind, EditSession, Gen, GenSolve}
 use Rattle.solver_top.specs.declared.status.Verdict.TheVariants.{Done}
 use Rattle.solver_top.proofs.Written.{verdict_same, status_of_no_fault, written_same, answer_same}
 use Rattle.solver_top.proofs.Complete.{is_answered, done_or_no}
@@ -90,6 +90,14 @@ returns-in-Ok-clause-part g c = λ xs part line told has.
 pub returns-in-Ok-clause-weave : goal.returns-in-Ok-clause-weave
 returns-in-Ok-clause-weave g c = λ xs line told has.
     (c.in-Ok.answer.verdict, c.in-Ok.answer.text.items, c.in-Ok.ensures.command Weave xs line told, c.deliver.ensures.written)
+
+pub returns-in-Ok-clause-rewind : goal.returns-in-Ok-clause-rewind
+returns-in-Ok-clause-rewind g c = λ xs k line told has.
+    (c.in-Ok.answer.verdict, c.in-Ok.answer.text.items, c.in-Ok.ensures.command (Rewind k) xs line told, c.deliver.ensures.written)
+
+pub returns-in-Ok-clause-edit : goal.returns-in-Ok-clause-edit
+returns-in-Ok-clause-edit g c = λ xs line told has.
+    (c.in-Ok.answer.verdict, c.in-Ok.answer.text.items, c.in-Ok.ensures.command EditSession xs line told, c.deliver.ensures.written)
 
 pub returns-in-Ok-clause-told : goal.returns-in-Ok-clause-told
 returns-in-Ok-clause-told g c = λ xs told line is.

@@ -10,6 +10,8 @@ returns-in_default-clause-err c =
       check = c.in_default.not-check;
       part = c.in_default.not-part;
       weave = c.in_default.not-weave;
+      rewind = c.in_default.not-rewind;
+      edit = c.in_default.not-edit;
       gen = c.in_default.not-gen;
       gen_solve = c.in_default.not-text;
     })

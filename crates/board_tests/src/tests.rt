@@ -1,0 +1,3 @@
+mod hostile;
+mod making;
+mod worked;

@@ -1,0 +1,5 @@
+mod Paths
+mod Least
+mod Parts
+mod Shown
+mod Walked

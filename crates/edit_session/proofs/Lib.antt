@@ -1,0 +1,9 @@
+mod Towers
+mod Stamps
+mod Bordered
+mod Many
+mod Replies
+mod Sights
+mod Answered
+mod Plays
+mod Alike

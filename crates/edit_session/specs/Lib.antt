@@ -1,0 +1,4 @@
+pub mod Bounds
+pub mod Sessions
+pub mod Laws
+pub mod Desks

@@ -1,0 +1,2 @@
+pub mod WorkedRun
+pub mod Laws

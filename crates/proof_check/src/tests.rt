@@ -2,10 +2,14 @@
 use crate::{Told, check_proof_text};
 use std::test::Fail;
 
-const POINTS: &str = r#""name":"s","points":[{"x":0,"y":0},{"x":0,"y":4},{"x":4,"y":0},{"x":4,"y":4},{"x":2,"y":2}]"#;
+const POINTS: &str =
+    r#""name":"s","points":[{"x":0,"y":0},{"x":0,"y":4},{"x":4,"y":0},{"x":4,"y":4},{"x":2,"y":2}]"#;
 // The border, and the segments from the centre to two opposite corners.
-const SOLUTION: &str = r#"{"edges":[{"i":0,"j":1},{"i":0,"j":2},{"i":0,"j":4},{"i":1,"j":3},{"i":2,"j":3},{"i":3,"j":4}],"instance_name":"s","type":"Solution"}"#;
+const SOLUTION: &str =
+    r#"{"edges":[{"i":0,"j":1},{"i":0,"j":2},{"i":0,"j":4},{"i":1,"j":3},{"i":2,"j":3},{"i":3,"j":4}],"instance_name":"s","type":"Solution"}"#;
+
 const TREE: &str = r#"{"tree":[["p",2,[["h",4,0,2],["h",4,3,2]]]]}"#;
+
 const STATED: &str = r#"{"cost":6,"least":6,"nodes":1,"optimal":true}"#;
 
 // What is answered to these lines behind the instance.

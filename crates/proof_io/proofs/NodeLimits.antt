@@ -1,7 +1,6 @@
 -- What the lines of a proof are read as is within the limits of the formats.
-use Rattle.std.proofs.Common.{◌≡◌, ℕ, ◌<◌, ◌≤◌, ◌⊎◌, List, [], ◌∷◌, length, map, Bool, true, false, cond, Option, Some, None, option_map, option_and_then, Result, Ok, Err, All, codes, inl, inr, refl, sym, ap, ◌∙◌, subst, arith}
+use Rattle.std.proofs.Common.{◌≡◌, ℕ, ◌<◌, ◌≤◌, ◌⊎◌, List, [], ◌∷◌, length, Bool, true, false, cond, Option, Some, None, option_map, option_and_then, Result, Ok, Err, codes, inl, inr, refl, ap, subst, arith}
 use Rattle.std.proofs.lemmas.List.{length-map}
-use Rattle.std.proofs.lemmas.Option.{same_Some}
 use Rattle.serde_json.specs.Data.{Data}
 use Rattle.serde_json.specs.Find.{get, as_str}
 use Rattle.plane.specs.Accepted.{AreAccepted}
@@ -18,14 +17,12 @@ use Rattle.text_defs.specs.Items.{number_within, index, pair, is_tag, array_list
 use Rattle.text_defs.specs.Solutions as solution
 use Rattle.text_defs.proofs.laws.IsPlain.{Each, IsEdge}
 use Rattle.solution_io.specs.declared.fault.SolutionFault.TheVariants as named
-use Rattle.report_io.specs.declared.faults.ReportFault.TheVariants as report
-use Rattle.report_io.specs.Parts.{RowItem, SolutionParts}
+use Rattle.report_io.specs.Parts.{SolutionParts}
 use Rattle.report_io.specs.Reading as reports
 use Rattle.report_io.specs.Report.{row_item}
 use Rattle.report_io.proofs.laws.PartLimits.{IsRowItem, AreSolutionParts}
 use Rattle.report_io.proofs.laws.PartsWithin.{some_of, mapped_of, number_within-some, index-some, pair-some, row_of-some, all_of-some, each_or_fault-ok, unless_many-ok, solution_in-within}
 use Rattle.report_io.proofs.laws.Within.{each_told}
-use Rattle.report_io.proofs.laws.Once.{ok_is}
 use Rattle.tree_defs.specs.Conditions.{IsNodeOf}
 use Rattle.tree_defs.specs.declared.node.Node.{Node}
 use Rattle.tree_defs.specs.declared.node.Node.TheVariants.{Branch, Crossed, Barred, Need, Prices}

@@ -1,18 +1,17 @@
 -- What the reading of a proof is answered.
-use Rattle.std.proofs.Common.{◌≡◌, ◌≢◌, ℕ, ◌<◌, ◌≤◌, List, length, Result, Ok, Err, MatchResult, IfOk, inl, inr, refl, sym, ap, ◌∙◌, subst}
+use Rattle.std.proofs.Common.{◌≡◌, ◌≢◌, ℕ, ◌≤◌, List, length, Result, Ok, Err, MatchResult, IfOk, inl, inr, refl, sym, subst}
 use Rattle.plane.specs.Accepted.{AreAccepted}
 use Rattle.text_defs.specs.Instances.{instance_from}
 use Rattle.text_defs.specs.Lines.{lines}
 use Rattle.instance_io.specs.Refusal as instances
 use Rattle.instance_io.specs.declared.instances.Instance.{Instance}
 use Rattle.instance_io.specs.declared.instances.InstanceFault.{InstanceFault}
-use Rattle.instance_io.specs.declared.instances.InstanceFault.TheVariants as first
 use Rattle.proof_io.specs.declared.proof.Proof.{Proof}
 use Rattle.proof_io.specs.declared.faults.ProofFault.{ProofFault}
 use Rattle.proof_io.specs.declared.faults.ProofFault.TheVariants as at
-use Rattle.proof_io.specs.Answers.{IsLaterKind, IsOr, IsRefusal, IsBehind, IsFewBehind}
+use Rattle.proof_io.specs.Answers.{IsLaterKind, IsOr, IsRefusal, IsFewBehind}
 use Rattle.proof_io.specs.Proofs.{FourLines, HasLines, later_of, later_parts, HasInstance, Gives, HasLaterFault, HasFault, IsProofWithin}
-use Rattle.proof_io.proofs.NodeLimits.{later_within, proof_within, AreLaterParts}
+use Rattle.proof_io.proofs.NodeLimits.{later_within, proof_within}
 
 -- both clauses
 abbrev pub IsAnswered : List ℕ → Result Proof ProofFault → Type 0
@@ -43,9 +42,10 @@ read_answer : (bytes : List ℕ) (L : FourLines) (I : Instance) (p : Proof) → 
 read_answer bytes L I p has few same later =
     let here : HasInstance bytes L p.instance = subst (HasInstance bytes L) (sym same) has in
     let low : length p.instance.points ≤ 40 = subst (λ (J : Instance). length J.points ≤ 40) (sym same) few in
-    let read : later_of (length p.instance.points) L ≡ Ok (later_parts p) = subst (λ (J : Instance). later_of (length J.points) L ≡ Ok (later_parts p)) (sym same) later in
-    (record { lines = L; instance = here; few = low; later = read },
-      proof_within p here.accepted low (later_within (length p.instance.points) L.second L.third L.fourth (later_parts p) read))
+    let read : later_of (length p.instance.points) L ≡ Ok (later_parts p) = subst (λ (J : Instance). later_of (length J.points) L ≡ Ok (later_parts p)) (sym same) later in (
+      record { lines = L; instance = here; few = low; later = read },
+      proof_within p here.accepted low (later_within (length p.instance.points) L.second L.third L.fourth (later_parts p) read),
+    )
 
 pub behind_answer : (bytes : List ℕ) (L : FourLines) (I : Instance) (result : Result Proof ProofFault) → HasLines bytes L → instances.IsRead (instance_from L.first) (Ok I) → IsFewBehind I L.second L.third L.fourth result → IsAnswered bytes result
 behind_answer bytes L I (Ok p) cut read (inl (few, behind)) = read_answer bytes L I p (at_first bytes L I cut read behind.0) few behind.1 behind.2

@@ -1,15 +1,13 @@
 -- The reading of a solution with a name in steps.
-use Rattle.std.proofs.Common.{◌≡◌, ℕ, List, Some, None, option_and_then, Result, Ok, Err, codes, refl, inl, inr}
+use Rattle.std.proofs.Common.{◌≡◌, ℕ, List, Some, None, option_and_then, Ok, Err, codes, refl, inl, inr}
 use Rattle.serde_json.specs.Data.{Data}
 use Rattle.serde_json.specs.Find.{get, as_str}
 use Rattle.text_defs.specs.Solutions.{edges_in}
 use Rattle.solution_io.specs.Refusal.{HasFault}
 use Rattle.solution_io.specs.declared.fault.SolutionFault.{SolutionFault}
 use Rattle.solution_io.specs.declared.fault.SolutionFault.TheVariants.{NotJson, NoEdges, TooManyEdges, BadEdge, NoMemory}
-use Rattle.proof_io.specs.declared.solution.NamedSolution.{NamedSolution}
 use Rattle.proof_io.specs.declared.faults.ProofFault.TheVariants.{NoSolutionName}
 use Rattle.proof_io.specs.Answers.{Answers, refusal, tell_solution}
-use Rattle.report_io.specs.Parts.{SolutionParts}
 use Rattle.proof_io.specs.Reading.{solution_in}
 
 pub no_name : (n : ℕ) (d : Data) → None ≡ option_and_then as_str (get (codes "instance_name") d) → solution_in n d ≡ Err NoSolutionName

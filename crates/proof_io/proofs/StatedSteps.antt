@@ -1,9 +1,8 @@
 -- The reading of the last line in steps.
-use Rattle.std.proofs.Common.{◌≡◌, ℕ, Bool, Result, Ok, Err, codes, inl, inr, refl}
+use Rattle.std.proofs.Common.{◌≡◌, ℕ, Bool, Result, Ok, codes, inl, inr, refl}
 use Rattle.serde_json.specs.Data.{Data}
 use Rattle.serde_json.specs.Find.{as_bool}
 use Rattle.text_defs.specs.Items.{number_within}
-use Rattle.proof_io.specs.declared.proof.Stated.{Stated}
 use Rattle.proof_io.specs.declared.faults.StatedField.TheVariants as key
 use Rattle.proof_io.specs.declared.faults.ProofFault.{ProofFault}
 use Rattle.proof_io.specs.Reading.{stated_in, field, most_64}

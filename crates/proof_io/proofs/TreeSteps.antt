@@ -1,5 +1,5 @@
 -- The reading of a tree in steps.
-use Rattle.std.proofs.Common.{◌≡◌, ◌≢◌, ℕ, ◌<◌, ◌≤◌, List, [], ◌∷◌, map, length, nat_le, Option, Some, None, option_and_then, option_map, get_or, Result, Ok, Err, true, false, codes, refl, sym, ap, ◌∙◌, arith}
+use Rattle.std.proofs.Common.{◌≡◌, ◌≢◌, ℕ, ◌<◌, ◌≤◌, List, [], ◌∷◌, map, length, nat_le, Some, None, option_map, get_or, Err, true, false, codes, refl, sym, ap, ◌∙◌, arith}
 use Rattle.std.proofs.lemmas.List.{length-map}
 use Rattle.serde_json.specs.Data.{Data}
 use Rattle.serde_json.specs.Find.{as_array}
@@ -9,9 +9,8 @@ use Rattle.text_defs.specs.Fields.{array_at}
 use Rattle.text_defs.specs.Items.{number_within, each_or_fault}
 use Rattle.text_defs.proofs.laws.Lists.{list_of-items_of}
 use Rattle.proof_io.specs.declared.faults.TreeLine.TheVariants as tree
-use Rattle.proof_io.specs.declared.faults.ProofFault.{ProofFault}
 use Rattle.proof_io.specs.declared.faults.ProofFault.TheVariants as at
-use Rattle.proof_io.specs.Parts.{NodeItem, prices}
+use Rattle.proof_io.specs.Parts.{prices}
 use Rattle.proof_io.specs.Reading.{rows_in, prices_in, node_in, node_of, node_items, tree_in, most_divisor, most_nodes}
 
 -- ---- arrays of other lengths, and values that are none

@@ -19,7 +19,7 @@ use Rattle.proof_io.specs.declared.reading.TheConstants.{MOST_TO_PROVE}
 use Rattle.proof_io.specs.declared.solution.NamedSolution.{NamedSolution}
 use Rattle.proof_io.specs.Parts.{NodeItem}
 use Rattle.proof_io.specs.Reading.{later_from}
-use Rattle.proof_io.specs.Proofs.{node_item, later_parts, IsProofWithin}
+use Rattle.proof_io.specs.Proofs.{node_item, later_parts}
 
 -- the faults of the lines behind the first are called so
 abbrev pub IsLaterKind : ProofFault → Type 0

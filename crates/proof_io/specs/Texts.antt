@@ -1,5 +1,5 @@
 -- The lines that are written for the tree of a proof and for what is said of it. (This project's own.)
-use Rattle.std.specs.Prelude.{ℕ, List, [], ◌∷◌, map, codes}
+use Rattle.std.specs.Prelude.{List, [], ◌∷◌, map, codes}
 use Rattle.serde_json.specs.Data.{Data, string, object, boolean, no_members, member}
 use Rattle.text_defs.specs.Texts.{index_data}
 use Rattle.report_io.specs.Texts.{list_data, tagged_data, row_data}

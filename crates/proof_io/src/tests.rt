@@ -5,8 +5,12 @@ use solution_io::SolutionFault;
 use std::test::Fail;
 use tree_defs::Node;
 
-const INSTANCE: &str = r#"{"name":"s","points":[{"x":0,"y":0},{"x":0,"y":4},{"x":4,"y":0},{"x":4,"y":4},{"x":2,"y":2}]}"#;
-const SOLUTION: &str = r#"{"edges":[{"i":0,"j":1},{"i":0,"j":2}],"instance_name":"s","type":"Solution"}"#;
+const INSTANCE: &str =
+    r#"{"name":"s","points":[{"x":0,"y":0},{"x":0,"y":4},{"x":4,"y":0},{"x":4,"y":4},{"x":2,"y":2}]}"#;
+
+const SOLUTION: &str =
+    r#"{"edges":[{"i":0,"j":1},{"i":0,"j":2}],"instance_name":"s","type":"Solution"}"#;
+
 const STATED: &str = r#"{"cost":6,"least":6,"nodes":1,"optimal":true}"#;
 
 // The fault of these lines, or none.
@@ -25,7 +29,8 @@ fn fault_of(
 
 #[test]
 fn nodes_of_each_kind_are_read(rt: HostRuntime) -> Result<(), Fail> {
-    let tree = r#"{"tree":[["b",4,1],["x",1,4,0,2],["r",0,1],["n",4,4],["p",2,[["h",4,0,2],["c",0,4,1]]],["p",0,[]]]}"#;
+    let tree =
+        r#"{"tree":[["b",4,1],["x",1,4,0,2],["r",0,1],["n",4,4],["p",2,[["h",4,0,2],["c",0,4,1]]],["p",0,[]]]}"#;
     let text = format!(in rt.alloc(); "{INSTANCE}\n{SOLUTION}\n{tree}\n{STATED}\n")?;
     let Ok(proof) = read_proof(rt.alloc(), text.as_bytes()) else {
         return Err(Fail::from("no proof"));
@@ -71,9 +76,18 @@ fn faults_of_the_lines(rt: HostRuntime) -> Result<(), Fail> {
     let lines = [
         ("x", Some(ProofFault::Stated(StatedLine::NotJson))),
         ("[]", field(StatedField::Cost)),
-        (r#"{"cost":6,"least":-1,"nodes":1,"optimal":true}"#, field(StatedField::Least)),
-        (r#"{"cost":6,"least":6,"optimal":true}"#, field(StatedField::Nodes)),
-        (r#"{"cost":6,"least":6,"nodes":1,"optimal":1}"#, field(StatedField::Optimal)),
+        (
+            r#"{"cost":6,"least":-1,"nodes":1,"optimal":true}"#,
+            field(StatedField::Least),
+        ),
+        (
+            r#"{"cost":6,"least":6,"optimal":true}"#,
+            field(StatedField::Nodes),
+        ),
+        (
+            r#"{"cost":6,"least":6,"nodes":1,"optimal":1}"#,
+            field(StatedField::Optimal),
+        ),
     ];
     for (line, wanted) in lines {
         assert_eq!(rt; fault_of(&rt, SOLUTION, tree, line)?, wanted, "of {line}");

@@ -113,13 +113,7 @@ fn is_candidate(points: &Points, taken: &[Pair], barred: &[Pair], need: Need, e:
 }
 
 // The least other end of such a segment with this smaller end.
-fn named_from(
-    points: &Points,
-    taken: &[Pair],
-    barred: &[Pair],
-    need: Need,
-    i: u32,
-) -> Option<Pair>
+fn named_from(points: &Points, taken: &[Pair], barred: &[Pair], need: Need, i: u32) -> Option<Pair>
     requires within { AreWithin points.now taken.now }
     requires p_in { need.p < length points.now }
     requires q_in { need.q < length points.now }

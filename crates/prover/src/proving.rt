@@ -51,7 +51,15 @@ pub fn prove(
     let limit = costs.total(first);
     let shown = value(&raised, base);
     if budget < 3 || shown >= limit {
-        return one_leaf(alloc, points, clear.as_slice(), border.as_slice(), first, raised, shown);
+        return one_leaf(
+            alloc,
+            points,
+            clear.as_slice(),
+            border.as_slice(),
+            first,
+            raised,
+            shown,
+        );
     }
     let given = Given {
         points,
@@ -67,7 +75,15 @@ pub fn prove(
         best: first.to_vec(alloc)?,
     };
     if !search(alloc, &given, &[], &[], &mut made)? {
-        return one_leaf(alloc, points, clear.as_slice(), border.as_slice(), first, raised, shown);
+        return one_leaf(
+            alloc,
+            points,
+            clear.as_slice(),
+            border.as_slice(),
+            first,
+            raised,
+            shown,
+        );
     }
     let least = costs.total(made.best.as_slice());
     let solution = sorted_of(alloc, clear.as_slice(), made.best.as_slice())?;
@@ -87,8 +103,7 @@ fn one_leaf(
     first: &[Pair],
     raised: Certificate,
     shown: u64,
-) -> Result<Proved, NoMemory>
-{
+) -> Result<Proved, NoMemory> {
     let mut tree = Vec::new(alloc);
     let list = if has_inner(points) { first } else { border };
     let solution = sorted_of(alloc, clear, list)?;
@@ -101,8 +116,7 @@ fn one_leaf(
 }
 
 // Whether some point is inner.
-fn has_inner(points: &Points) -> bool
-{
+fn has_inner(points: &Points) -> bool {
     for p in 0..points.len() {
         if points.is_inner(p) {
             return true;

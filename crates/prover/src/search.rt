@@ -92,8 +92,7 @@ fn keep_cheaper(
     given: &Given<'_>,
     taken: &[Pair],
     best: &mut Vec<Pair>,
-) -> Result<(), NoMemory>
-{
+) -> Result<(), NoMemory> {
     let list = partition_of(alloc, given.points, given.border, taken)?;
     if given.costs.total(list.as_slice()) < given.costs.total(best.as_slice()) {
         *best = list;
@@ -108,8 +107,7 @@ fn close(
     taken: &[Pair],
     end: End,
     made: &mut Made,
-) -> Result<(), NoMemory>
-{
+) -> Result<(), NoMemory> {
     if let End::Starved(need) = end {
         made.nodes.push(Node::Need {
             p: need.p,
@@ -120,7 +118,8 @@ fn close(
     if let End::Met = end {
         keep_cheaper(alloc, given, taken, &mut made.best)?;
     }
-    made.nodes.push(Node::Prices(copy_of(alloc, given.raised)?))?;
+    made.nodes
+        .push(Node::Prices(copy_of(alloc, given.raised)?))?;
     Ok(())
 }
 
@@ -131,8 +130,7 @@ pub fn search(
     taken: &[Pair],
     barred: &[Pair],
     made: &mut Made,
-) -> Result<bool, NoMemory>
-{
+) -> Result<bool, NoMemory> {
     if made.nodes.len() >= given.budget as usize {
         return Ok(false);
     }

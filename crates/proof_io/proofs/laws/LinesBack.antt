@@ -1,15 +1,15 @@
 -- The reading of the lines behind an instance is what was written.
-use Rattle.std.proofs.Common.{◌≡◌, ℕ, ◌^◌, ◌<◌, ◌≤◌, List, [], ◌∷◌, length, map, Option, Some, option_map, option_and_then, Ok, IsUtf8, refl, ap, ap₂, ◌∙◌, arith, le-leb, lt-ltb, nat_le, true}
+use Rattle.std.proofs.Common.{◌≡◌, ℕ, ◌^◌, ◌<◌, ◌≤◌, List, [], ◌∷◌, length, map, Option, Some, option_map, option_and_then, is_some, not, filter_map, Ok, IsUtf8, refl, ap, ap₂, ◌∙◌, arith, le-leb, lt-ltb, nat_le, true, false}
 use Rattle.std.proofs.lemmas.List.{length-map}
 use Rattle.serde_json.specs.Data.{Data, depth}
 use Rattle.serde_json.specs.View.{items_of}
 use Rattle.serde_json.specs.Written.{compact_text}
-use Rattle.text_defs.specs.Steps.{◌>>=◌, or_fault}
+use Rattle.text_defs.specs.Steps.{◌>>=◌, or_fault, unless}
 use Rattle.text_defs.specs.Fields.{list_of}
-use Rattle.text_defs.specs.Items.{number_within, index, pair}
+use Rattle.text_defs.specs.Items.{number_within, index, pair, each_or_fault}
 use Rattle.text_defs.specs.Texts.{index_data, solution_data}
 use Rattle.text_defs.proofs.laws.IsPlain.{IsPlain, Each, IsEdge}
-use Rattle.text_defs.proofs.laws.Lists.{list_of-items_of}
+use Rattle.text_defs.proofs.laws.Lists.{list_of-items_of, position_none}
 use Rattle.text_defs.proofs.laws.PlainTexts.{json_reading-compact_text}
 use Rattle.text_defs.proofs.laws.Solutions.{solution_plain, solution_shallow, edges_in-solution_data}
 use Rattle.solution_io.specs.declared.fault.SolutionFault.TheVariants as named
@@ -17,7 +17,7 @@ use Rattle.report_io.specs.Parts.{RowItem, SolutionParts}
 use Rattle.report_io.specs.Reading.{row_of}
 use Rattle.report_io.specs.Texts.{row_data}
 use Rattle.report_io.proofs.laws.PartLimits.{IsRowItem, AreSolutionParts}
-use Rattle.report_io.proofs.laws.PartsBack.{each_back, all_back, row_back, start_back}
+use Rattle.report_io.proofs.laws.PartsBack.{all_back, row_back, start_back}
 use Rattle.proof_io.specs.declared.proof.Stated.{Stated}
 use Rattle.proof_io.specs.declared.faults.TreeLine.TheVariants as tree
 use Rattle.proof_io.specs.declared.faults.StatedLine.TheVariants as said
@@ -29,6 +29,19 @@ use Rattle.proof_io.specs.Texts.{node_data, tree_data, stated_data}
 use Rattle.proof_io.specs.Proofs.{IsStatedWithin}
 use Rattle.proof_io.proofs.NodeLimits.{IsNodeItem, AreLaterParts}
 use Rattle.proof_io.proofs.laws.NodesPlain.{tree_plain, stated_plain, tree_shallow, stated_shallow}
+
+each_back : {A F : Type 0} (P : A → Type 0) (read : Data → Option A) (tell : A → Data) (fault : ℕ → F) (xs : List A) → ((x : A) → P x → read (tell x) ≡ Some x) → Each P xs
+    → each_or_fault read fault (map tell xs) ≡ Ok xs
+each_back P read tell fault xs back h =
+    ap₂ (λ (o : Option _) (l : List _). unless o l) (ap (option_map fault) (position_none (λ d. not (is_some (read d))) (map tell xs) (some_each xs h))) (same xs h)
+  where
+    some_each : (ys : List _) → Each P ys → Each (λ d. not (is_some (read d)) ≡ false) (map tell ys)
+    some_each [] h = tt
+    some_each (y ∷ ys) h = (ap (λ o. not (is_some o)) (back y h.0), some_each ys h.1)
+
+    same : (ys : List _) → Each P ys → filter_map read (map tell ys) ≡ ys
+    same [] h = refl
+    same (y ∷ ys) h = rw (back y h.0) (ap (λ l. y ∷ l) (same ys h.1))
 
 index_back : (n i : ℕ) → i < n → index n (index_data i) ≡ Some i
 index_back n i h = rw (lt-ltb i n h) refl

@@ -13,7 +13,7 @@ use Rattle.tree_defs.specs.declared.node.Node.TheVariants.{Branch, Crossed, Barr
 use Rattle.proof_io.specs.declared.proof.Proof.{Proof}
 use Rattle.proof_io.specs.declared.proof.Stated.{Stated}
 use Rattle.proof_io.specs.declared.faults.ProofFault.{ProofFault}
-use Rattle.proof_io.specs.Parts.{NodeItem, branch, crossed, barred, need, prices, LaterParts}
+use Rattle.proof_io.specs.Parts.{branch, crossed, barred, need, prices, LaterParts}
 use Rattle.proof_io.specs.Proofs.{node_item, later_parts}
 
 branch_same : (e f : ℕ × ℕ) → branch e ≡ branch f → e ≡ f

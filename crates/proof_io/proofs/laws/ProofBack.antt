@@ -1,5 +1,5 @@
 -- The reading of a written proof is that proof and no other.
-use Rattle.std.proofs.Common.{◌≡◌, ℕ, ◌^◌, ◌≤◌, List, length, map, Result, Ok, IsUtf8, All, sym, ap, ◌∙◌, subst, arith}
+use Rattle.std.proofs.Common.{◌≡◌, ℕ, ◌^◌, ◌≤◌, List, length, map, Ok, IsUtf8, All, sym, ◌∙◌, subst, arith}
 use Rattle.std.proofs.lemmas.List.{length-map}
 use Rattle.serde_json.specs.Written.{compact_text}
 use Rattle.plane.specs.declared.coordinates.Point.{Point}
@@ -10,7 +10,7 @@ use Rattle.price_defs.specs.Limits.{IsIndexed}
 use Rattle.price_defs.specs.Rows.{weight}
 use Rattle.text_defs.specs.Instances.{instance_from}
 use Rattle.text_defs.specs.Texts.{instance_data, instance_text, solution_data, with_costs}
-use Rattle.text_defs.proofs.laws.IsPlain.{IsPlain, Each, IsEdge, IsPlace, IsCosted}
+use Rattle.text_defs.proofs.laws.IsPlain.{IsPlain, Each, IsPlace, IsCosted}
 use Rattle.text_defs.proofs.laws.Lists.{each}
 use Rattle.text_defs.proofs.laws.Lines.{lines-lines_text}
 use Rattle.text_defs.proofs.laws.Costs.{with_costs-plain}
@@ -27,7 +27,7 @@ use Rattle.tree_defs.specs.declared.node.Node.{Node}
 use Rattle.tree_defs.specs.declared.node.Node.TheVariants.{Branch, Crossed, Barred, Need, Prices}
 use Rattle.proof_io.specs.declared.proof.Proof.{Proof}
 use Rattle.proof_io.specs.Texts.{tree_data, stated_data}
-use Rattle.proof_io.specs.Proofs.{node_item, later_parts, proof_lines, proof_text, FourLines, HasLines, later_of, Gives, IsProofWithin, IsWithin}
+use Rattle.proof_io.specs.Proofs.{node_item, later_parts, proof_lines, proof_text, FourLines, later_of, Gives, IsProofWithin, IsWithin}
 use Rattle.proof_io.proofs.NodeLimits.{IsNodeItem, AreLaterParts}
 use Rattle.proof_io.proofs.laws.NodesPlain.{tree_plain, stated_plain}
 use Rattle.proof_io.proofs.laws.LinesBack.{later_back}

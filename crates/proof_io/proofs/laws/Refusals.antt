@@ -1,7 +1,6 @@
 -- A text that gives a proof isn't refused.
-use Rattle.std.proofs.Common.{◌≡◌, ◌≢◌, ℕ, ◌<◌, ◌≤◌, List, [], ◌∷◌, length, Result, Ok, Err, refl, sym, ap, ◌∙◌, subst, arith}
+use Rattle.std.proofs.Common.{◌≡◌, ◌≢◌, ℕ, List, [], ◌∷◌, length, Ok, Err, refl, sym, ap, ◌∙◌, subst, arith}
 use Rattle.text_defs.specs.Instances.{instance_from}
-use Rattle.text_defs.specs.Lines.{lines}
 use Rattle.json_text.proofs.Laws.{ok_err}
 use Rattle.instance_io.specs.Refusal as instances
 use Rattle.instance_io.specs.declared.instances.Instance.{Instance}
@@ -10,7 +9,7 @@ use Rattle.instance_io.proofs.laws.Readings.{read_once, gives_no_fault}
 use Rattle.proof_io.specs.declared.proof.Proof.{Proof}
 use Rattle.proof_io.specs.declared.faults.ProofFault.{ProofFault}
 use Rattle.proof_io.specs.declared.faults.ProofFault.TheVariants as at
-use Rattle.proof_io.specs.Proofs.{FourLines, HasLines, later_of, later_parts, HasInstance, Gives, HasFirstFault, HasManyPoints, HasLaterFault, HasFault}
+use Rattle.proof_io.specs.Proofs.{FourLines, HasLines, later_of, HasInstance, Gives, HasFirstFault, HasManyPoints, HasLaterFault, HasFault}
 
 -- the first four of some lines
 four_of : List (List ℕ) → FourLines
@@ -45,7 +44,7 @@ no_later : (bytes : List ℕ) (p : Proof) (fault : ProofFault) → Gives bytes p
 no_later bytes p fault h k =
     let same = instance_once bytes k.lines h.lines k.instance p.instance k.is h.instance in
     let here : later_of (length p.instance.points) h.lines ≡ Err fault =
-        subst (λ (I : Instance). later_of (length I.points) h.lines ≡ Err fault) same.1 (subst (λ (M : FourLines). later_of (length k.instance.points) M ≡ Err fault) same.0 k.later) in
+    subst (λ (I : Instance). later_of (length I.points) h.lines ≡ Err fault) same.1 (subst (λ (M : FourLines). later_of (length k.instance.points) M ≡ Err fault) same.0 k.later) in
     ok_err (sym h.later ∙ here)
 
 pub proof_not_refused : (bytes : List ℕ) (p : Proof) (fault : ProofFault) → Gives bytes p → fault ≢ at.NoMemory → HasFault bytes fault → ⊥

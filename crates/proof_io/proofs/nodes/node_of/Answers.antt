@@ -1,4 +1,3 @@
-use Rattle.std.proofs.Common.{arith}
 use Rattle.serde_json.specs.View.{view}
 use Rattle.proof_io.proofs.TreeSteps.{node_of-other}
 use Rattle.proof_io.proofs.nodes.node_of.Goals as goal

@@ -1,5 +1,4 @@
 use Rattle.std.proofs.Common.{◌∙◌, ap, sym, map, option_map, Some}
-use Rattle.serde_json.specs.View.{view}
 use Rattle.report_io.specs.Report.{row_item}
 use Rattle.proof_io.specs.Parts.{prices}
 use Rattle.proof_io.specs.Proofs.{row_items}

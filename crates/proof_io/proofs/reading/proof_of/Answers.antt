@@ -1,6 +1,6 @@
-use Rattle.std.proofs.Common.{◌≡◌, ◌∙◌, ℕ, List, length, map, Ok, Result, refl, ap, sym, subst}
+use Rattle.std.proofs.Common.{◌≡◌, ◌∙◌, List, map, Ok, Result, refl, ap, sym, subst}
 use Rattle.proof_io.specs.declared.faults.ProofFault.{ProofFault}
-use Rattle.proof_io.specs.Parts.{NodeItem, LaterParts}
+use Rattle.proof_io.specs.Parts.{LaterParts}
 use Rattle.proof_io.specs.Reading.{later_from}
 use Rattle.proof_io.specs.Proofs.{node_item}
 use Rattle.report_io.specs.Report.{solution_parts}

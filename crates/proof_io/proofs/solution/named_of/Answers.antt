@@ -1,4 +1,4 @@
-use Rattle.std.proofs.Common.{◌≡◌, ◌∙◌, ℕ, List, Result, Ok, Err, map, subst, ap₂, ap, sym, inr}
+use Rattle.std.proofs.Common.{◌∙◌, ℕ, List, Result, Ok, Err, map, subst, ap₂, ap, sym, inr}
 use Rattle.serde_json.specs.View.{view}
 use Rattle.instance_io.specs.Refusal.{ends}
 use Rattle.proof_io.specs.declared.faults.ProofFault.{ProofFault}

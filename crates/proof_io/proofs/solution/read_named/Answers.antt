@@ -1,4 +1,3 @@
-use Rattle.std.proofs.Common.{Err}
 use Rattle.serde_json.specs.View.{view}
 use Rattle.solution_io.specs.declared.fault.SolutionFault.TheVariants as named
 use Rattle.proof_io.specs.declared.faults.ProofFault.TheVariants as at

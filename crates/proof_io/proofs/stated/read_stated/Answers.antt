@@ -1,4 +1,3 @@
-use Rattle.std.proofs.Common.{Err}
 use Rattle.serde_json.specs.View.{view}
 use Rattle.proof_io.specs.declared.proof.Stated.{Stated}
 use Rattle.proof_io.specs.declared.faults.StatedLine.TheVariants as said

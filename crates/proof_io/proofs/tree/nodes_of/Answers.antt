@@ -12,8 +12,11 @@ use Rattle.proof_io.proofs.tree.nodes_of.Goals as goal
 pub returns-in_default-read : goal.returns-in_default-read
 returns-in_default-read c =
     let none : None ≡ node_of c.args.n (view c.index-items-place.result) = ap (option_map node_item) (sym c.in_default-read.is) ∙ c.in-Ok-node_of.ensures in
-    inr (tt, nodes-few c.args.n c.args.items.now c.requires
-    ∙ missing_at (node_of c.args.n) (λ k. at.Tree (tree.BadNode k)) c.args.items.now c.loop-place.place c.index-items-place.result (omega arith) c.index-items-place.is c.loop-place.invariant.0 none)
+    inr (
+      tt,
+      nodes-few c.args.n c.args.items.now c.requires
+          ∙ missing_at (node_of c.args.n) (λ k. at.Tree (tree.BadNode k)) c.args.items.now c.loop-place.place c.index-items-place.result (omega arith) c.index-items-place.is c.loop-place.invariant.0 none,
+    )
 
 pub loop-place-preserved : goal.loop-place-preserved
 loop-place-preserved c =

@@ -1,4 +1,3 @@
-use Rattle.std.proofs.Common.{Err}
 use Rattle.serde_json.specs.View.{view}
 use Rattle.proof_io.specs.declared.faults.TreeLine.TheVariants as tree
 use Rattle.proof_io.specs.declared.faults.ProofFault.TheVariants as at

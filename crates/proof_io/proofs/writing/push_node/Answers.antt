@@ -1,4 +1,4 @@
-use Rattle.std.proofs.Common.{◌≡◌, ◌++◌, ◌∙◌, ap}
+use Rattle.std.proofs.Common.{◌++◌, ◌∙◌, ap}
 use Rattle.serde_json.specs.Written.{comma_if, compact_text, has_float}
 use Rattle.json_text.proofs.Laws.{append-two}
 use Rattle.proof_io.specs.Proofs.{node_item}

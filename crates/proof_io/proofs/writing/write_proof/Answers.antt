@@ -1,4 +1,4 @@
-use Rattle.std.proofs.Common.{◌≡◌, List, [], ◌∷◌, ◌++◌, ◌∙◌, ap, map}
+use Rattle.std.proofs.Common.{[], ◌++◌, ◌∙◌, ap, map}
 use Rattle.serde_json.specs.Data.{Data}
 use Rattle.text_defs.specs.Lines.{line_text}
 use Rattle.text_defs.specs.Texts.{instance_data, solution_data, with_costs}

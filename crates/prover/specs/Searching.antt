@@ -10,7 +10,7 @@ use Rattle.partition_defs.specs.Triangulation.{AreDistinct, IsBorderList}
 use Rattle.cost_defs.specs.Costs.{Costed, cost, total}
 use Rattle.price_defs.specs.declared.row.Certificate.{Certificate}
 use Rattle.price_defs.specs.Raising.{IsRaisedFloor}
-use Rattle.tree_defs.specs.Leaves.{Sets, Leaf, IsStarved, IsLeafValue}
+use Rattle.tree_defs.specs.Leaves.{Sets, Leaf, IsStarved, IsFreePart, IsLeafValue}
 use Rattle.tree_defs.specs.Trees.{Tree, preorder, leaves, IsRightBelow}
 use Rattle.tree_defs.specs.Full.{IsSound, IsFirstUnmet, IsNamed, IsFullEnd, IsFullBelow}
 use Rattle.prover.specs.Lists.{IsKnown}
@@ -28,6 +28,9 @@ pub record IsGiven (S : List Point) (D : List Costed) (B : List Pair) (h limit :
   pub border : IsBorderList S B
   pub base : h ≡ total D B
   pub raised : IsRaisedFloor S D c.q c.rows
+
+abbrev pub IsGivenTo : Given → Type 0
+IsGivenTo g = IsGiven g.points.now g.costs.now g.border.now g.base g.limit g.raised.now × (g.raised.now.q ≡ 2) × (g.base ≤ 5000000) × (g.budget ≤ 20000)
 
 -- the sets of a node of the search: no segments taken that cross, none twice, and no border pair barred
 pub record AreSearched (S : List Point) (s : Sets) : Type 0 where
@@ -48,6 +51,11 @@ IsStepHere S D h limit c s (Named e) = (¬ IsFullEnd S D h limit c s) × ((p q :
 -- no leaf's value is below so much
 abbrev pub AreAtLeast : List Point → List Costed → ℕ → List Leaf → ℕ → Type 0
 AreAtLeast S D h all v = (leaf : Leaf) (w : ℕ) → Contains all leaf → IsLeafValue S D h leaf w → v ≤ w
+
+-- the new list is as cheap as the old one and as the partition that the taken segments make
+abbrev pub IsCheaper : List Point → List Costed → ℕ → (taken old new : List Pair) → Type 0
+IsCheaper S D h taken old new =
+    IsKnown S D (total D old) new × ((free : List Pair) → IsFreePart S taken free → total D new ≤ h + total D free)
 
 -- the part of the search's tree below these sets is put behind the nodes so far
 pub record IsGrown (S : List Point) (D : List Costed) (h limit budget : ℕ) (c : Certificate) (s : Sets) (old new : Made) : Type 0 where

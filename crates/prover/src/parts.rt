@@ -2,10 +2,11 @@
 ghost use Rattle.std.specs.Prelude.{◌≡◌, ◌∷◌, IfOk};
 ghost use Rattle.partition_defs.specs.Partition.{AreWithin};
 ghost use Rattle.partition_defs.specs.Triangulation.{AreDistinct, IsBorderList};
-ghost use Rattle.directions.specs.Clear.{AreAllClear};
+ghost use Rattle.directions.specs.Fans.{AreAllClear};
 ghost use Rattle.tree_defs.specs.Proving.{AreAscending};
 ghost use Rattle.prover.specs.Lists.{IsJoined, IsSortedFrom};
 
+use branch_tree::free_part;
 use mcp_outside::NoMemory;
 use plane::{Pair, Points};
 use std::alloc::Global;
@@ -50,12 +51,9 @@ pub fn partition_of(
     requires distinct { AreDistinct taken.now }
     ensures { IfOk result (λ list. IsJoined points.now border.now taken.now list.items) }
 {
+    let free = free_part(alloc, points, taken)?;
     let mut list = border.to_vec(alloc)?;
-    for e in taken {
-        if !points.is_border(*e) {
-            list.push(*e)?;
-        }
-    }
+    list.extend_from_slice(&free)?;
     Ok(list)
 }
 

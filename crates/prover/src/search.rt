@@ -1,8 +1,12 @@
 // The plain search.
-ghost use Rattle.std.specs.Prelude.{◌≤◌, length, IfOk};
+ghost use Rattle.std.specs.Prelude.{◌≤◌, ◌<◌, length, IfOk, OnOk};
+ghost use Rattle.partition_defs.specs.Partition.{MeetsNeeds};
+ghost use Rattle.partition_defs.specs.Triangulation.{AreDistinct};
+ghost use Rattle.tree_defs.specs.Full.{IsSound};
 ghost use Rattle.tree_defs.specs.Leaves.{sets};
 ghost use Rattle.tree_defs.specs.declared.node.TheConstants.{MOST_NODES};
-ghost use Rattle.prover.specs.Searching.{AreSearched, IsGiven, IsStepHere};
+ghost use Rattle.prover.specs.Lists.{IsKnown};
+ghost use Rattle.prover.specs.Searching.{AreSearched, IsCheaper, IsEndHere, IsGivenTo, IsGrown, IsMade, IsStepHere};
 
 use crate::choice::{Need, first_unmet, named, starved};
 use crate::parts::{partition_of, with_front};
@@ -58,7 +62,7 @@ fn step_of(
     taken: &[Pair],
     barred: &[Pair],
 ) -> Result<Step, NoMemory>
-    requires given { IsGiven given.now.points.now given.now.costs.now given.now.border.now given.now.base given.now.limit given.now.raised.now }
+    requires given { IsGivenTo given.now }
     requires searched { AreSearched given.now.points.now (sets taken.now barred.now) }
     requires few { length taken.now ≤ MOST_NODES }
     ensures { IfOk result (IsStepHere given.now.points.now given.now.costs.now given.now.base given.now.limit given.now.raised.now (sets taken.now barred.now)) }
@@ -92,7 +96,14 @@ fn keep_cheaper(
     given: &Given<'_>,
     taken: &[Pair],
     best: &mut Vec<Pair>,
-) -> Result<(), NoMemory> {
+) -> Result<(), NoMemory>
+    requires given { IsGivenTo given.now }
+    requires sound { IsSound given.now.points.now taken.now }
+    requires distinct { AreDistinct taken.now }
+    requires met { MeetsNeeds given.now.points.now taken.now }
+    requires known { IsKnown given.now.points.now given.now.costs.now given.now.limit best.old.items }
+    ensures { OnOk result (IsCheaper given.now.points.now given.now.costs.now given.now.base taken.now best.old.items best.new.items) }
+{
     let list = partition_of(alloc, given.points, given.border, taken)?;
     if given.costs.total(list.as_slice()) < given.costs.total(best.as_slice()) {
         *best = list;
@@ -105,9 +116,19 @@ fn close(
     alloc: Global,
     given: &Given<'_>,
     taken: &[Pair],
+    barred: &[Pair],
     end: End,
     made: &mut Made,
-) -> Result<(), NoMemory> {
+) -> Result<(), NoMemory>
+    requires given { IsGivenTo given.now }
+    requires searched { AreSearched given.now.points.now (sets taken.now barred.now) }
+    requires end { IsEndHere given.now.points.now given.now.costs.now given.now.base given.now.limit given.now.raised.now (sets taken.now barred.now) end }
+    requires room { length made.old.nodes.items < given.now.budget }
+    requires known { IsKnown given.now.points.now given.now.costs.now given.now.limit made.old.best.items }
+    ensures { OnOk result (IsGrown given.now.points.now given.now.costs.now given.now.base given.now.limit given.now.budget given.now.raised.now
+        (sets taken.now barred.now) made.old made.new) }
+{
+    let _ = barred;
     if let End::Starved(need) = end {
         made.nodes.push(Node::Need {
             p: need.p,
@@ -130,14 +151,22 @@ pub fn search(
     taken: &[Pair],
     barred: &[Pair],
     made: &mut Made,
-) -> Result<bool, NoMemory> {
+) -> Result<bool, NoMemory>
+    requires given { IsGivenTo given.now }
+    requires searched { AreSearched given.now.points.now (sets taken.now barred.now) }
+    requires few { length taken.now ≤ length made.old.nodes.items }
+    requires known { IsKnown given.now.points.now given.now.costs.now given.now.limit made.old.best.items }
+    requires room { length made.old.nodes.items ≤ given.now.budget }
+    ensures { IfOk result (IsMade given.now.points.now given.now.costs.now given.now.base given.now.limit given.now.budget given.now.raised.now
+        (sets taken.now barred.now) made.old made.new) }
+{
     if made.nodes.len() >= given.budget as usize {
         return Ok(false);
     }
     let e = match step_of(alloc, given, taken, barred)? {
         Step::Named(e) => e,
         Step::Closed(end) => {
-            close(alloc, given, taken, end, made)?;
+            close(alloc, given, taken, barred, end, made)?;
             return Ok(true);
         }
     };

@@ -1,18 +1,18 @@
 // The proof of a least cost.
-ghost use Rattle.std.specs.Prelude.{◌≤◌, length, IfOk, List};
+ghost use Rattle.std.specs.Prelude.{◌≤◌, ◌↔◌, length, IfOk, IsTrue, List};
 ghost use Rattle.plane.specs.declared.segment.Pair.{Pair};
 ghost use Rattle.partition_defs.specs.Partition.{IsConvexPartition};
 ghost use Rattle.partition_defs.specs.Triangulation.{AreDistinct, IsBorderList};
 ghost use Rattle.cost_defs.specs.Costs.{total};
-ghost use Rattle.tree_defs.specs.Proving.{IsProof};
+ghost use Rattle.tree_defs.specs.Proving.{HasInner, IsProof};
 
 use crate::parts::{border_of, sorted_of};
-use crate::raised::raised_floor;
+use crate::raised::{copy_of, raised_floor};
 use crate::search::{Given, Made, search};
 use cert_check::border_cost::border_cost;
 use cost_defs::Costs;
 use directions::clear_pairs;
-use dual_prices::{Certificate, value};
+use dual_prices::value;
 use mcp_outside::NoMemory;
 use plane::{Pair, PairList, Points};
 use std::alloc::Global;
@@ -47,76 +47,72 @@ pub fn prove(
     let clear = clear_pairs(alloc, points)?;
     let border = border_of(alloc, points, clear.as_slice())?;
     let raised = raised_floor(alloc, points, costs)?;
-    let base = border_cost(points, costs);
-    let limit = costs.total(first);
-    let shown = value(&raised, base);
-    if budget < 3 || shown >= limit {
-        return one_leaf(
-            alloc,
-            points,
-            clear.as_slice(),
-            border.as_slice(),
-            first,
-            raised,
-            shown,
-        );
-    }
     let given = Given {
         points,
         costs,
         border: border.as_slice(),
-        base,
+        base: border_cost(points, costs),
         raised: &raised,
-        limit,
+        limit: costs.total(first),
         budget,
     };
+    if budget < 3 || value(&raised, given.base) >= given.limit {
+        return one_leaf(alloc, &given, clear.as_slice(), first);
+    }
+    match searched(alloc, &given, clear.as_slice(), first)? {
+        Some(proved) => Ok(proved),
+        None => one_leaf(alloc, &given, clear.as_slice(), first),
+    }
+}
+
+// What the search shows, where it has room.
+fn searched(
+    alloc: Global,
+    given: &Given<'_>,
+    clear: &[Pair],
+    first: &[Pair],
+) -> Result<Option<Proved>, NoMemory>
+{
     let mut made = Made {
         nodes: Vec::new(alloc),
         best: first.to_vec(alloc)?,
     };
-    if !search(alloc, &given, &[], &[], &mut made)? {
-        return one_leaf(
-            alloc,
-            points,
-            clear.as_slice(),
-            border.as_slice(),
-            first,
-            raised,
-            shown,
-        );
+    if !search(alloc, given, &[], &[], &mut made)? {
+        return Ok(None);
     }
-    let least = costs.total(made.best.as_slice());
-    let solution = sorted_of(alloc, clear.as_slice(), made.best.as_slice())?;
-    Ok(Proved {
+    let Made { nodes, best } = made;
+    let least = given.costs.total(best.as_slice());
+    let solution = sorted_of(alloc, clear, best.as_slice())?;
+    Ok(Some(Proved {
         solution: PairList::make(solution),
-        tree: NodeList::make(made.nodes),
+        tree: NodeList::make(nodes),
         least,
-    })
+    }))
 }
 
 // The tree of one leaf, with what is known, or with the border pairs where no point is inner.
 fn one_leaf(
     alloc: Global,
-    points: &Points,
+    given: &Given<'_>,
     clear: &[Pair],
-    border: &[Pair],
     first: &[Pair],
-    raised: Certificate,
-    shown: u64,
-) -> Result<Proved, NoMemory> {
-    let mut tree = Vec::new(alloc);
-    let list = if has_inner(points) { first } else { border };
+) -> Result<Proved, NoMemory>
+{
+    let list = if has_inner(given.points) { first } else { given.border };
     let solution = sorted_of(alloc, clear, list)?;
-    tree.push(Node::Prices(raised))?;
+    let mut tree = Vec::new(alloc);
+    tree.push(Node::Prices(copy_of(alloc, given.raised)?))?;
     Ok(Proved {
         solution: PairList::make(solution),
         tree: NodeList::make(tree),
-        least: shown,
+        least: value(given.raised, given.base),
     })
 }
 
 // Whether some point is inner.
-fn has_inner(points: &Points) -> bool {
+fn has_inner(points: &Points) -> bool
+    ensures { IsTrue result ↔ HasInner points.now }
+{
     for p in 0..points.len() {
         if points.is_inner(p) {
             return true;

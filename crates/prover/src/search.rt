@@ -21,6 +21,7 @@ use tree_defs::Node;
 
 /// What the search is given: an instance, the cost of its border pairs and a list of them, the raised floor certificate, the
 /// cost of what is known at first, and the most nodes.
+#[derive(Clone, Copy)]
 pub struct Given<'a> {
     pub points: &'a Points,
     pub costs: &'a Costs,

@@ -3,6 +3,7 @@ ghost use Rattle.std.specs.Prelude.{◌≡◌, IfOk};
 ghost use Rattle.planner.specs.Region.{AreFor};
 ghost use Rattle.worker_tests.specs.Regions.{IsAgreed};
 
+use super::answering::answer;
 use super::making::{
     board_of, core_of, costs_of, entered, finished, hand_in, last_of, put_back, swept,
 };
@@ -10,14 +11,29 @@ use board::{Board, Pass};
 use cost_defs::Costs;
 use edit::{Look, Plan};
 use journal_defs::Edit;
+use plan_defs::Move;
 use plane::{Pair, Points};
-use planner::{Region, agree, plan_drop, plan_flip, plan_flip_swap, plan_swap, plan_trade};
+use planner::{Region, agree};
+use std::alloc::Global;
 use std::process::Abort;
 use std::test::Fail;
 
 const GRID: [(i64, i64); 6] = [(0, 0), (10, 0), (20, 0), (0, 10), (10, 10), (20, 10)];
 
 const CENTRED: [(i64, i64); 5] = [(0, 0), (0, 4), (4, 0), (4, 4), (2, 2)];
+
+// Vertices that are looked at.
+const AROUND: [u32; 4] = [0, 1, 3, 4];
+
+const ALL: [u32; 5] = [0, 1, 2, 3, 4];
+
+fn swap_of(keep: Pair, first: Pair) -> Move {
+    Move::Swap {
+        keep,
+        first,
+        second: None,
+    }
+}
 
 fn look_of(board: &Board, pass: &mut Pass, v: u32) -> Result<Look, Fail>
     requires { pass.old.of ≡ board.now }
@@ -46,30 +62,58 @@ fn put_in(points: &Points, region: &mut Region, look: Look) -> Result<(), Fail>
 }
 
 // The region of looks at these vertices now.
-fn region_of(board: &Board, pass: &mut Pass, looked: &[u32]) -> Result<Region, Fail>
-    requires { pass.old.of ≡ board.now }
+fn region_of(
+    points: &Points,
+    board: &Board,
+    pass: &mut Pass,
+    looked: &[u32],
+) -> Result<Region, Fail>
+    requires points { points.now ≡ board.now.root.points }
+    requires of { pass.old.of ≡ board.now }
     ensures of { pass.new.of ≡ board.now }
-    ensures region { IfOk result (AreFor board.now.root.points) }
+    ensures region { IfOk result (AreFor points.now) }
 {
     let mut region = Region::make();
     for v in looked {
         let look = look_of(board, pass, *v)?;
-        put_in(board.points(), &mut region, look)?;
+        put_in(points, &mut region, look)?;
     }
     Ok(region)
 }
 
 // The same, where its stars agree.
-fn agreed_region(board: &Board, pass: &mut Pass, looked: &[u32]) -> Result<Region, Fail>
-    requires { pass.old.of ≡ board.now }
+fn agreed_region(
+    points: &Points,
+    board: &Board,
+    pass: &mut Pass,
+    looked: &[u32],
+) -> Result<Region, Fail>
+    requires points { points.now ≡ board.now.root.points }
+    requires of { pass.old.of ≡ board.now }
     ensures of { pass.new.of ≡ board.now }
-    ensures region { IfOk result (IsAgreed board.now.root.points) }
+    ensures region { IfOk result (IsAgreed points.now) }
 {
-    let region = region_of(board, pass, looked)?;
-    if !agree(board.points(), &region) {
+    let region = region_of(points, board, pass, looked)?;
+    if !agree(points, &region) {
         return Err(Fail::from("the stars don't agree"));
     }
     Ok(region)
+}
+
+// What is answered to a move on looks at these vertices now.
+fn answered(
+    board: &Board,
+    pass: &mut Pass,
+    costs: &Costs,
+    looked: &[u32],
+    asked: Move,
+) -> Result<Option<Plan>, Fail>
+    requires { pass.old.of ≡ board.now }
+    ensures { pass.new.of ≡ board.now }
+{
+    let points = board.points();
+    let mut region = agreed_region(points, board, pass, looked)?;
+    answer(points, costs, &mut region, asked)
 }
 
 fn has_claims(plan: &Plan, wanted: &[(u32, u64)]) -> bool {
@@ -93,28 +137,12 @@ fn is_plan(made: &Option<Plan>, edits: &[Edit], claims: &[(u32, u64)]) -> bool {
     }
 }
 
-// What is planned on a grid that lacks the pair 1-3, in this order: a drop of it, a swap, a flip, a flip with a swap.
-fn plans_on_grid(board: &Board, pass: &mut Pass) -> Result<[Option<Plan>; 4], Fail>
-    requires { pass.old.of ≡ board.now }
-    ensures { pass.new.of ≡ board.now }
-{
-    let (gone, side) = (Pair::of(1, 3), Pair::of(1, 4));
-    let costs = Costs::unit();
-    let mut region = agreed_region(board, pass, &[0, 1, 3, 4])?;
-    let points = board.points();
-    let drop = plan_drop(points, &region, gone);
-    let swap = plan_swap(points, &costs, &mut region, gone, side, None);
-    let flip = plan_flip(points, &region, gone);
-    let both = plan_flip_swap(points, &costs, &mut region, gone, side, None)?;
-    Ok([drop, swap, flip, both])
-}
-
 // Whether a second look at a vertex is handed back.
 fn is_handed_back(board: &Board, pass: &mut Pass, v: u32) -> Result<bool, Fail>
     requires { pass.old.of ≡ board.now }
     ensures { pass.new.of ≡ board.now }
 {
-    let mut region = region_of(board, pass, &[0, 1, 3, 4])?;
+    let mut region = region_of(board.points(), board, pass, &AROUND)?;
     let again = look_of(board, pass, v)?;
     match region.add(again) {
         Ok(()) => Ok(false),
@@ -122,24 +150,41 @@ fn is_handed_back(board: &Board, pass: &mut Pass, v: u32) -> Result<bool, Fail>
     }
 }
 
-fn expect_plans_on_grid(rt: &impl Abort, board: &Board, pass: &mut Pass) -> Result<(), Fail>
+// A drop of a pair that is gone, and a swap that keeps it.
+fn expect_marks(rt: &impl Abort, board: &Board, pass: &mut Pass) -> Result<(), Fail>
     requires { pass.old.of ≡ board.now }
     ensures { pass.new.of ≡ board.now }
 {
     let (gone, side) = (Pair::of(1, 3), Pair::of(1, 4));
-    let across = Pair::of(0, 4);
-    let turned = Edit::Flip {
-        from: gone,
-        to: across,
-    };
-    let claims = [(0, 0), (1, 1), (3, 1), (4, 0)];
-    let [drop, swap, flip, both] = plans_on_grid(board, pass)?;
+    let costs = Costs::unit();
+    let drop = answered(board, pass, &costs, &AROUND, Move::DropOne(gone))?;
     assert!(rt; drop.is_none());
-    let swapped = [Edit::Keep(gone), Edit::Drop(side)];
-    assert!(rt; is_plan(&swap, &swapped, &[(1, 1), (3, 1), (4, 0)]));
+    let swap = answered(board, pass, &costs, &AROUND, swap_of(gone, side))?;
+    let edits = [Edit::Keep(gone), Edit::Drop(side)];
+    assert!(rt; is_plan(&swap, &edits, &[(1, 1), (3, 1), (4, 0)]));
+    Ok(())
+}
+
+// A flip of the pair that is gone, alone and with a swap, whose commit is the second.
+fn expect_flips(rt: &impl Abort, board: &Board, pass: &mut Pass) -> Result<(), Fail>
+    requires { pass.old.of ≡ board.now }
+    ensures { pass.new.of ≡ board.now }
+{
+    let (pair, first) = (Pair::of(1, 3), Pair::of(1, 4));
+    let to = Pair::of(0, 4);
+    let turned = Edit::Flip { from: pair, to };
+    let claims = [(0, 0), (1, 1), (3, 1), (4, 0)];
+    let costs = Costs::unit();
+    let flip = answered(board, pass, &costs, &AROUND, Move::FlipOne(pair))?;
     assert!(rt; is_plan(&flip, &[turned], &claims));
-    let edits = [turned, Edit::Keep(across), Edit::Drop(side)];
-    assert!(rt; is_plan(&both, &edits, &claims));
+    let second = None;
+    let asked = Move::FlipSwap {
+        pair,
+        first,
+        second,
+    };
+    let both = answered(board, pass, &costs, &AROUND, asked)?;
+    assert!(rt; is_plan(&both, &[turned, Edit::Keep(to), Edit::Drop(first)], &claims));
     let Some(plan) = both else {
         return Err(Fail::from("no plan"));
     };
@@ -155,46 +200,54 @@ fn plans_on_a_grid(rt: HostRuntime) -> Result<(), Fail> {
     let gone = [Edit::Drop(Pair::of(1, 3))];
     assert_eq!(&rt; hand_in(&board, &mut pass, &gone, &[(1, 0), (3, 0)])?, 1);
     assert!(&rt; is_handed_back(&board, &mut pass, 4)?);
-    expect_plans_on_grid(&rt, &board, &mut pass)
+    expect_marks(&rt, &board, &mut pass)?;
+    expect_flips(&rt, &board, &mut pass)
 }
 
-// The trade of a square with a centre, at these costs.
-fn traded(board: &Board, pass: &mut Pass, costs: &Costs) -> Result<Option<Plan>, Fail>
+fn trade() -> Move {
+    Move::Trade {
+        keep: Pair::of(0, 4),
+        other: Pair::of(3, 4),
+        first: Pair::of(1, 4),
+        second: Pair::of(2, 4),
+    }
+}
+
+// No trade where what it keeps costs more, and no swap at either cost, since one pair alone would be left beside the kept one.
+fn expect_none(rt: &impl Abort, alloc: Global, board: &Board, pass: &mut Pass) -> Result<(), Fail>
     requires { pass.old.of ≡ board.now }
     ensures { pass.new.of ≡ board.now }
 {
-    let mut region = agreed_region(board, pass, &[0, 1, 2, 3, 4])?;
-    let keep = [Pair::of(0, 4), Pair::of(3, 4)];
-    let dropped = [Pair::of(1, 4), Pair::of(2, 4)];
-    Ok(plan_trade(board.points(), costs, &mut region, keep, dropped))
+    let costs = costs_of(rt, alloc, &[(1, 4, 3)])?;
+    let dearer = costs_of(rt, alloc, &[(0, 4, 3)])?;
+    let swap = swap_of(Pair::of(0, 4), Pair::of(1, 4));
+    assert!(rt; answered(board, pass, &dearer, &ALL, trade())?.is_none());
+    assert!(rt; answered(board, pass, &costs, &ALL, swap)?.is_none());
+    assert!(rt; answered(board, pass, &dearer, &ALL, swap)?.is_none());
+    Ok(())
 }
 
-fn swapped(board: &Board, pass: &mut Pass, costs: &Costs) -> Result<Option<Plan>, Fail>
+fn expect_trade(rt: &impl Abort, costs: &Costs, board: &Board, pass: &mut Pass) -> Result<(), Fail>
     requires { pass.old.of ≡ board.now }
     ensures { pass.new.of ≡ board.now }
 {
-    let mut region = agreed_region(board, pass, &[0, 1, 2, 3, 4])?;
-    let keep = Pair::of(0, 4);
-    let gone = Pair::of(1, 4);
-    Ok(plan_swap(board.points(), costs, &mut region, keep, gone, None))
+    let Some(plan) = answered(board, pass, costs, &ALL, trade())? else {
+        return Err(Fail::from("no plan"));
+    };
+    assert!(rt; has_claims(&plan, &[(0, 1), (1, 0), (2, 0), (3, 2), (4, 2)]));
+    assert_eq!(rt; entered(board, pass, plan)?, 3);
+    Ok(())
 }
 
 #[test]
 fn plans_that_count_costs(rt: HostRuntime) -> Result<(), Fail> {
     let costs = costs_of(&rt, rt.alloc(), &[(1, 4, 3)])?;
-    let dearer = costs_of(&rt, rt.alloc(), &[(0, 4, 3)])?;
     let mut core = core_of(&rt, rt.alloc(), &CENTRED)?;
     swept(&mut core)?;
     let (board, mut passes) = board_of(core, 1, 10)?;
     let mut pass = last_of(&board, &mut passes)?;
-    assert!(&rt; traded(&board, &mut pass, &dearer)?.is_none());
-    assert!(&rt; swapped(&board, &mut pass, &costs)?.is_none());
-    assert!(&rt; swapped(&board, &mut pass, &dearer)?.is_none());
-    let Some(plan) = traded(&board, &mut pass, &costs)? else {
-        return Err(Fail::from("no plan"));
-    };
-    assert!(&rt; has_claims(&plan, &[(0, 1), (1, 0), (2, 0), (3, 2), (4, 2)]));
-    assert_eq!(&rt; entered(&board, &mut pass, plan)?, 3);
+    expect_none(&rt, rt.alloc(), &board, &mut pass)?;
+    expect_trade(&rt, &costs, &board, &mut pass)?;
     put_back(&board, &mut passes, pass)?;
     let core = finished(board, passes)?;
     assert_eq!(&rt; costs.total(core.kept()?.as_slice()), 6);
@@ -209,9 +262,10 @@ fn do_agree(board: &Board, pass: &mut Pass, other: &mut Pass) -> Result<bool, Fa
     let before = look_of(board, pass, 1)?;
     let gone = [Edit::Drop(Pair::of(1, 3))];
     hand_in(board, other, &gone, &[(1, 0), (3, 0)])?;
-    let mut region = region_of(board, pass, &[3])?;
-    put_in(board.points(), &mut region, before)?;
-    Ok(agree(board.points(), &region))
+    let points = board.points();
+    let mut region = region_of(points, board, pass, &[3])?;
+    put_in(points, &mut region, before)?;
+    Ok(agree(points, &region))
 }
 
 #[test]

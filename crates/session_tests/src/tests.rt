@@ -1,4 +1,0 @@
-mod making;
-mod plain;
-mod random;
-mod worked;

@@ -1,4 +1,0 @@
-mod answering;
-mod making;
-mod several;
-mod worked;

@@ -1,3 +1,0 @@
-mod making;
-mod several;
-mod worked;

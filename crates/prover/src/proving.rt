@@ -71,8 +71,7 @@ fn searched(
     given: &Given<'_>,
     clear: &[Pair],
     first: &[Pair],
-) -> Result<Option<Proved>, NoMemory>
-{
+) -> Result<Option<Proved>, NoMemory> {
     let mut made = Made {
         nodes: Vec::new(alloc),
         best: first.to_vec(alloc)?,
@@ -96,9 +95,12 @@ fn one_leaf(
     given: &Given<'_>,
     clear: &[Pair],
     first: &[Pair],
-) -> Result<Proved, NoMemory>
-{
-    let list = if has_inner(given.points) { first } else { given.border };
+) -> Result<Proved, NoMemory> {
+    let list = if has_inner(given.points) {
+        first
+    } else {
+        given.border
+    };
     let solution = sorted_of(alloc, clear, list)?;
     let mut tree = Vec::new(alloc);
     tree.push(Node::Prices(copy_of(alloc, given.raised)?))?;

@@ -17,8 +17,8 @@ use price_defs::{Certificate, Row, added_of, load_of, lost_of};
 use std::alloc::Global;
 use tree_defs::MOST_NODES;
 
-/// The taken pairs that aren't border pairs.
-pub fn free_part(alloc: Global, points: &Points, taken: &[Pair]) -> Result<Vec<Pair>, NoMemory>
+// The taken pairs that aren't border pairs.
+fn free_part(alloc: Global, points: &Points, taken: &[Pair]) -> Result<Vec<Pair>, NoMemory>
     requires within { AreWithin points.now taken.now }
     requires distinct { AreDistinct taken.now }
     ensures part { IfOk result (λ v. IsFreePart points.now taken.now v.items) }

@@ -7,5 +7,4 @@ mod leaf;
 mod path;
 
 pub use checking::check_tree;
-pub use leaf::{free_part, leaf_value_of};
 pub use tree_defs::{MOST_LEAF_ROWS, MOST_LEAF_WEIGHT, MOST_NODES, Node, NodeList, TreeFault};

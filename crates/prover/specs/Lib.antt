@@ -1,3 +1,0 @@
-pub mod Choices
-pub mod Lists
-pub mod Searching

@@ -2,14 +2,15 @@
 #
 #   make -f examples/folder.mk -j 4 FROM=instances TO=reports
 #
-# Each NAME.instance.json of FROM gives a report NAME.report in TO. MCP is the program; B, ROUNDS and SEED are the words of
+# Each NAME.instance.json of FROM gives a report NAME.report in TO. MCP is the program; E, B, ROUNDS and SEED are the words of
 # `solve`. With `make -k` an instance that is refused stops no other one.
 MCP = crates/mcp/out/mcp
 FROM = .
 TO = reports
-B = 0
-ROUNDS = 0
-SEED = 1
+E = 1
+B = 1
+ROUNDS = 1000
+SEED = 7
 
 REPORTS = $(patsubst $(FROM)/%.instance.json,$(TO)/%.report,$(wildcard $(FROM)/*.instance.json))
 
@@ -17,6 +18,6 @@ all: $(REPORTS)
 
 $(TO)/%.report: $(FROM)/%.instance.json
 	@mkdir -p $(TO)
-	$(MCP) solve 0 $(B) $(ROUNDS) $(SEED) < $< > $@.part && mv $@.part $@
+	$(MCP) solve $(E) $(B) $(ROUNDS) $(SEED) < $< > $@.part && mv $@.part $@
 
 .PHONY: all

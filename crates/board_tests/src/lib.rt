@@ -1,4 +1,4 @@
-//! Tests of the board: worked plans, hostile ones, threads, and many random plans against the plain slow program.
+//! Tests of the board, in one thread: worked plans, and hostile ones of a second pass.
 #![tactic(auto)]
 
 #[cfg(test)]

@@ -1,5 +1,3 @@
 mod hostile;
 mod making;
-mod many;
-mod threads;
 mod worked;

@@ -1,4 +1,4 @@
--- For private clauses.
+-- For private clauses, and for that of `opens_without`.
 -- What one star shows of a neighbour.
 use Rattle.std.specs.Prelude.{ℕ, Bool, Option, Some, None, List}
 use Rattle.plane.specs.declared.coordinates.Point.{Point}

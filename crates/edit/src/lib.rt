@@ -16,6 +16,7 @@ pub use fitting::{fits, fits_on_true_stars};
 pub use following::follow;
 pub use journal_defs::{Claim, Edit, EditList, Why};
 pub use look::Look;
+pub use marks::opens_without;
 pub use plan::{BadPlan, Plan};
 
 #[cfg(test)]

@@ -192,8 +192,9 @@ fn is_outer(star: &Star, are_met: bool) -> bool
     are_met && star.misses_some()
 }
 
-// Whether the centre is an inner point with a need that opens without its pair with q.
-fn opens_without(points: &Points, star: &Star, q: u32, are_met: bool) -> bool
+/// Whether the centre is an inner point with a need that opens without its pair with `q`. With `are_met`, all needs of it
+/// are known to be met where it is an inner point. (This project's own.)
+pub fn opens_without(points: &Points, star: &Star, q: u32, are_met: bool) -> bool
     requires points { points.now ≡ star.now.points }
     requires met { are_met ≡ true → IsMetInside star.now }
     ensures opened { IsTrue result → IsOpened points.now star.now star.now.centre q }

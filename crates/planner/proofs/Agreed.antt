@@ -47,7 +47,7 @@ pub met_inside : (S : List Point) (s : Seen) → S ≡ s.points → MissesSome s
 met_inside S s of missed inner met = none_missed_of_met S s.centre s.list (met inner) (subst (λ (P : List Point). MissesSome P s.centre s.list) (sym of) missed)
 
 -- a star that the region has is that of a look
-star_looked : (R : List Look) (v : ℕ) (s : Seen) → star_of_look R v ≡ Some s → has_look (sights R) v ≡ true
+pub star_looked : (R : List Look) (v : ℕ) (s : Seen) → star_of_look R v ≡ Some s → has_look (sights R) v ≡ true
 star_looked [] v s h = absurd (no s h)
   where
     no : (s : Seen) → ¬ (None ≡ Some s)

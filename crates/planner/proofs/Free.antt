@@ -22,7 +22,6 @@ use Rattle.journal_defs.specs.Neighbours.{leave_out}
 use Rattle.journal_defs.specs.Table.{ShowsApex, IsLowRight, IsHighLeft, FitsFlip}
 use Rattle.journal_defs.proofs.laws.Turned.{In, in_at, Turns, turn_in}
 use Rattle.journal_defs.proofs.laws.Follow.{in_out}
-use Rattle.journal_defs.proofs.laws.Members.{end_of}
 
 -- two steps up in one direction are on one side of every third
 one_side_up : (ux uy xx xy wx wy : ℤ) → Up xx xy → Up wx wy → cross xx xy wx wy ≡ pos 0 → pos 0 <ℤ cross ux uy wx wy → pos 0 <ℤ cross ux uy xx xy

@@ -11,3 +11,4 @@ pub mod Planned
 pub mod Across
 pub mod Slotted
 pub mod Tried
+pub mod Blocked

@@ -1,26 +1,24 @@
 -- Edits that are made on the stars of a region, and taken back.
-use Rattle.std.proofs.Common.{◌≡◌, ℕ, ◌+◌, ◌<◌, Bool, true, false, cond, ◌||◌, nat_eq, List, ◌∷◌, length, inl, inr, ◌⊎◌, arith, sym, ◌∙◌, ap, subst, refl}
+use Rattle.std.proofs.Common.{◌≡◌, ℕ, ◌+◌, ◌<◌, Bool, true, false, ◌||◌, List, ◌∷◌, length, inl, inr, arith, sym, ◌∙◌, ap, subst, refl}
 use Rattle.std.proofs.lemmas.Bool.{cases_Bool, or_left, or_right, false_from_ne_true}
-use Rattle.std.proofs.lemmas.Bool.Decides.{Decides-eqb, Decides-or}
 use Rattle.plane.specs.declared.coordinates.Point.{Point}
 use Rattle.plane.specs.declared.segment.Pair.{Pair}
 use Rattle.plane.specs.Accepted.{AreAccepted}
 use Rattle.partition_defs.specs.Partition.{HasEnds}
-use Rattle.partition_defs.proofs.laws.Joined.{one_other}
 use Rattle.star.specs.Stars.{Seen, IsStar, IsNeighbour, HasMark, entry}
 use Rattle.star.proofs.laws.Marks.{unmarked, marked_neighbour}
 use Rattle.journal_defs.specs.declared.edit.Edit.{Edit}
 use Rattle.journal_defs.specs.declared.edit.Edit.TheVariants.{Drop, Keep, Flip}
 use Rattle.journal_defs.specs.declared.edit.Why.{Why}
 use Rattle.journal_defs.specs.Edits.{inverse, is_end, touches}
-use Rattle.journal_defs.specs.Neighbours.{list_after, at_end, mark_as, leave_out, put_in_turn}
+use Rattle.journal_defs.specs.Neighbours.{list_after, at_end, leave_out, put_in_turn}
 use Rattle.journal_defs.specs.Table.{Fits, FitsFlip, Refuses}
 use Rattle.journal_defs.specs.Turns.{stars_after, FitInTurn}
 use Rattle.journal_defs.proofs.laws.Members.{is_end_lo, is_end_hi, not_end}
 use Rattle.journal_defs.proofs.laws.Mutual.{mutual_after, new_own, marked_own}
 use Rattle.journal_defs.proofs.laws.Table.{refused_drop, refused_keep, refused_flip}
-use Rattle.journal_defs.proofs.laws.Turned.{In, in_at, at_in, put_in}
-use Rattle.journal_defs.proofs.laws.Follow.{at_end_cases, mark_in}
+use Rattle.journal_defs.proofs.laws.Turned.{In, in_at}
+use Rattle.journal_defs.proofs.laws.Follow.{at_end_cases}
 use Rattle.journal_defs.proofs.laws.Same.{one_back}
 use Rattle.edit.specs.declared.look.Look.{Look}
 use Rattle.edit.specs.Plans.{are_touching}

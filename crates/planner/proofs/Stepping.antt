@@ -208,13 +208,13 @@ upper_ready S e f lo hi old mid lower upper first ready =
 off_list : (S : List Point) (e : Pair) (v : ℕ) (change : ℕ → List (ℕ × Bool)) (l : List (ℕ × Bool)) → is_end e v ≡ false → at_end e v change l ≡ l
 off_list S e v change l off = at_end_cases e v change l (λ m. m ≡ l) (λ w ends. absurd (not_end e v w off ends)) (λ none. refl)
 
-left_or : (a b : Bool) → (a || b) ≡ false → a ≡ false
+pub left_or : (a b : Bool) → (a || b) ≡ false → a ≡ false
 left_or a b h = false_from_ne_true a (λ t. false≢true (sym h ∙ or_left a b t))
 
-right_or : (a b : Bool) → (a || b) ≡ false → b ≡ false
+pub right_or : (a b : Bool) → (a || b) ≡ false → b ≡ false
 right_or a b h = false_from_ne_true b (λ t. false≢true (sym h ∙ or_right a b t))
 
-untouched_list : (S : List Point) (e : Edit) (v : ℕ) (l : List (ℕ × Bool)) → touches e v ≡ false → list_after S v e l ≡ l
+pub untouched_list : (S : List Point) (e : Edit) (v : ℕ) (l : List (ℕ × Bool)) → touches e v ≡ false → list_after S v e l ≡ l
 untouched_list S (Drop e) v l off = off_list S e v (λ w. mark_as w false l) l off
 untouched_list S (Keep e) v l off = off_list S e v (λ w. mark_as w true l) l off
 untouched_list S (Flip e f) v l off =

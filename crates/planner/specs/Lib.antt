@@ -3,3 +3,4 @@ pub mod Steps
 pub mod Answers
 pub mod Agreeing
 pub mod Claiming
+pub mod Blocking

@@ -4,6 +4,7 @@
 
 mod agreeing;
 mod apexes;
+mod blocking;
 mod building;
 mod dropping;
 mod flipping;

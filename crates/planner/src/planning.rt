@@ -7,6 +7,7 @@ ghost use Rattle.planner.specs.Region.{sights, AreFor, DoAgree, IsAsBefore};
 ghost use Rattle.planner.specs.Answers.{IsAnswer, IsFlipThen};
 ghost use Rattle.planner.specs.Steps.{AreHeld, AreLooked, AreMarks};
 
+use crate::blocking::are_blocked;
 use crate::building::{has_all_touched, plan_of};
 use crate::moves::{does_fit, try_edits, try_flip};
 use crate::region::Region;
@@ -52,6 +53,9 @@ pub fn plan_marks(
         return None;
     }
     if !is_no_dearer(costs, edits) {
+        return None;
+    }
+    if are_blocked(points, region, edits) {
         return None;
     }
     if !try_edits(points, region, edits) {
@@ -101,6 +105,9 @@ pub fn plan_flip_then(
         return Ok(None);
     }
     if !is_no_dearer(costs, edits) {
+        return Ok(None);
+    }
+    if are_blocked(points, region, edits) {
         return Ok(None);
     }
     let fit = try_flip_all(points, region, from, to, edits)?;

@@ -1,4 +1,5 @@
 mod editing;
+mod failing;
 mod rewinding;
 
 use mcp_outside::{MemorySink, MemorySource, OpenGate};
@@ -15,17 +16,19 @@ fn words_of(alloc: Global, line: &str) -> Result<Vec<String>, Fail> {
     Ok(words)
 }
 
-// What the program writes over memory, and its status.
-fn told<R: Threads + Sync>(
+// What the program writes over memory, and its status, where the source fails at one call and the sink at another,
+// counted from 1. At call 0 nothing fails.
+fn failed<R: Threads + Sync>(
     rt: &R,
     alloc: Global,
-    line: &str,
-    input: &str,
+    (line, text): (&str, &str),
+    source_call: u64,
+    sink_call: u64,
 ) -> Result<(Status, String), Fail> {
     let words = words_of(alloc, line)?;
-    let input = Vec::from_slice(alloc, input.as_bytes())?;
-    let mut source = MemorySource::make(input, 64, Vec::new(alloc));
-    let mut sink = MemorySink::make(alloc, 1_000_000, 100, Vec::new(alloc))?;
+    let input = Vec::from_slice(alloc, text.as_bytes())?;
+    let mut source = MemorySource::make(input, 64, [source_call].to_vec(alloc)?);
+    let mut sink = MemorySink::make(alloc, 1_000_000, 100, [sink_call].to_vec(alloc)?)?;
     let status = run(
         rt,
         alloc,
@@ -38,7 +41,17 @@ fn told<R: Threads + Sync>(
     Ok((status, String::from_utf8(written)?))
 }
 
-const LINES: [(&str, &str); 8] = [
+// The same where nothing fails.
+fn told<R: Threads + Sync>(
+    rt: &R,
+    alloc: Global,
+    line: &str,
+    text: &str,
+) -> Result<(Status, String), Fail> {
+    failed(rt, alloc, (line, text), 0, 0)
+}
+
+const LINES: [(&str, &str); 9] = [
     ("rewind", "usage 1\n"),
     ("rewind x", "usage 1\n"),
     ("rewind 01", "usage 1\n"),
@@ -46,6 +59,7 @@ const LINES: [(&str, &str); 8] = [
     ("rewind 200001", "usage 1\n"),
     ("rewind 0 0", "usage 2\n"),
     ("edit 0", "usage 1\n"),
+    ("edit edit", "usage 1\n"),
     ("undo", "usage 0\n"),
 ];
 

@@ -91,7 +91,10 @@ fn runs_with_edit_workers(rt: HostRuntime) -> Result<(), Fail> {
                 search,
                 &OpenGate,
             )?;
-            assert!(rt; run.kept.len() + commits <= start, "of {list:?}");
+            assert!(rt;
+                run.kept.len() <= start.saturating_sub(commits),
+                "of {list:?}"
+            );
             assert_eq!(rt; run.bound, bound, "of {list:?}");
             hold_against_plain(&rt, rt.alloc(), &run)?;
         }

@@ -78,6 +78,7 @@ fn a_drop_is_undone_once(rt: HostRuntime) -> Result<(), Fail> {
                 why: Why::NotSpare,
             }),
         ),
+        (9, Err(UndoFault::NoSuch { length: 2 })),
         (2, Ok(3)),
         (3, Ok(4)),
     ];

@@ -1,15 +1,16 @@
 // The expected replies are this project's worked ones.
 use super::making::{SQUARE, commit, core_of, pair, played};
 use cost_defs::{Costs, are_costs};
-use edit_session::{EditCommand, Reply};
+use edit_session::{EditCommand, Played, Reply};
 use journal_defs::{Edit, Why};
 use plane::Pair;
 use star::Star;
+use std::alloc::Global;
 use std::process::Abort;
 use std::test::Fail;
 
 // A reply as a row of a table tells it.
-#[derive(Clone, Copy, Debug, PartialEq, Eq)]
+#[derive(Clone, Copy)]
 enum Told {
     Seen(u64),
     Commit(u64),
@@ -18,20 +19,24 @@ enum Told {
     Bound(u64, u64),
 }
 
-fn row_of(reply: &Reply) -> Told {
-    match reply {
-        Reply::Seen { star: _, stamp } => Told::Seen(*stamp),
-        Reply::Commit(number) => Told::Commit(*number),
-        Reply::Illegal { at, why } => Told::Illegal(*at, *why),
-        Reply::Nothing => Told::Nothing,
-        Reply::Bound { value, cost } => Told::Bound(*value, *cost),
+fn is_told(reply: &Reply, row: Told) -> bool {
+    match row {
+        Told::Seen(wanted) => matches!(reply, Reply::Seen { star: _, stamp } if *stamp == wanted),
+        Told::Commit(wanted) => matches!(reply, Reply::Commit(number) if *number == wanted),
+        Told::Illegal(k, reason) => {
+            matches!(reply, Reply::Illegal { at, why } if *at == k && *why == reason)
+        }
+        Told::Nothing => matches!(reply, Reply::Nothing),
+        Told::Bound(least, kept) => {
+            matches!(reply, Reply::Bound { value, cost } if *value == least && *cost == kept)
+        }
     }
 }
 
 fn expect(rt: &impl Abort, replies: &[Reply], wanted: &[Told]) -> Result<(), Fail> {
     assert!(rt; replies.len() == wanted.len());
     for (k, (reply, row)) in replies.iter().zip(wanted).enumerate() {
-        assert!(rt; row_of(reply) == *row, "{k}");
+        assert!(rt; is_told(reply, *row), "{k}");
     }
     Ok(())
 }
@@ -44,19 +49,55 @@ fn expect_star(rt: &impl Abort, star: &Star, wanted: &[(u32, bool)]) -> Result<(
     Ok(())
 }
 
+// The pairs of a list with their costs, ascending.
+fn costs_of(alloc: Global, list: &[(u32, u32, u32)]) -> Result<Costs, Fail> {
+    let mut costs = Vec::new(alloc);
+    for (i, j, c) in list {
+        costs.push((pair(*i, *j), *c))?;
+    }
+    if are_costs(&costs) {
+        Ok(Costs::make(costs))
+    } else {
+        Err(Fail::from("no list of costs"))
+    }
+}
+
+// The session of the commands on the square, whose replies are these.
+fn expect_session(
+    rt: &impl Abort,
+    alloc: Global,
+    costs: &[(u32, u32, u32)],
+    commands: &[EditCommand],
+    wanted: &[Told],
+) -> Result<Played, Fail> {
+    let core = core_of(rt, alloc, &SQUARE)?;
+    let costs = costs_of(alloc, costs)?;
+    let played = played(alloc, core, &costs, commands)?;
+    expect(rt, played.replies.as_slice(), wanted)?;
+    Ok(played)
+}
+
+// All five segments of the start are kept again.
+fn expect_start(rt: &impl Abort, kept: &[Pair]) -> Result<(), Fail> {
+    let start = [(0, 1), (0, 2), (1, 2), (1, 3), (2, 3)];
+    assert!(rt; kept.len() == start.len());
+    for (e, f) in kept.iter().zip(&start) {
+        assert!(rt; e.lo() == f.0 && e.hi() == f.1);
+    }
+    Ok(())
+}
+
 // The diagonal of a square goes and comes back.
 #[test]
 fn a_drop_is_taken_back(rt: HostRuntime) -> Result<(), Fail> {
-    let core = core_of(&rt, rt.alloc(), &SQUARE)?;
-    let diagonal = pair(1, 2);
-    let mut commands = Vec::new(rt.alloc());
-    commands.push(commit(&[Edit::Drop(diagonal)])?)?;
-    commands.push(EditCommand::Look(1))?;
-    commands.push(EditCommand::Undo)?;
-    commands.push(EditCommand::Undo)?;
-    commands.push(commit(&[Edit::Drop(pair(0, 1))])?)?;
-    commands.push(EditCommand::Bound)?;
-    let played = played(rt.alloc(), core, &Costs::unit(), &commands)?;
+    let commands = [
+        commit(&[Edit::Drop(pair(1, 2))])?,
+        EditCommand::Look(1),
+        EditCommand::Undo,
+        EditCommand::Undo,
+        commit(&[Edit::Drop(pair(0, 1))])?,
+        EditCommand::Bound,
+    ];
     let rows = [
         Told::Commit(1),
         Told::Seen(1),
@@ -65,34 +106,33 @@ fn a_drop_is_taken_back(rt: HostRuntime) -> Result<(), Fail> {
         Told::Illegal(0, Why::Border),
         Told::Bound(4, 5),
     ];
-    expect(&rt, played.replies.as_slice(), &rows)?;
+    let played = expect_session(&rt, rt.alloc(), &[], &commands, &rows)?;
+    assert!(&rt; played.core.journal().len() == 2 && played.core.count(1) == 2);
     match played.replies.as_slice().get(1) {
         Some(Reply::Seen { star, stamp: _ }) => {
-            expect_star(&rt, star, &[(3, true), (0, true), (2, false)])?;
+            expect_star(&rt, star, &[(3, true), (0, true), (2, false)])
         }
-        _ => return Err(Fail::from("no star")),
+        _ => Err(Fail::from("no star")),
     }
-    assert!(&rt; played.core.journal().len() == 2 && played.core.count(1) == 2);
-    Ok(())
 }
 
 // Three commits are taken back one by one, the last one first, and an undo isn't taken back itself.
 #[test]
 fn undos_go_back_one_by_one(rt: HostRuntime) -> Result<(), Fail> {
-    let core = core_of(&rt, rt.alloc(), &SQUARE)?;
     let (from, to) = (pair(1, 2), pair(0, 3));
-    let mut commands = Vec::new(rt.alloc());
-    commands.push(commit(&[Edit::Drop(from)])?)?;
-    commands.push(commit(&[Edit::Flip { from, to }])?)?;
-    commands.push(commit(&[Edit::Keep(to), Edit::Drop(to), Edit::Keep(to)])?)?;
-    commands.push(commit(&[Edit::Drop(to), Edit::Keep(from)])?)?;
-    commands.push(EditCommand::Look(3))?;
-    for _ in 0..4 {
-        commands.push(EditCommand::Undo)?;
-    }
-    commands.push(EditCommand::Look(3))?;
-    commands.push(EditCommand::Bound)?;
-    let played = played(rt.alloc(), core, &Costs::unit(), &commands)?;
+    let commands = [
+        commit(&[Edit::Drop(from)])?,
+        commit(&[Edit::Flip { from, to }])?,
+        commit(&[Edit::Keep(to), Edit::Drop(to), Edit::Keep(to)])?,
+        commit(&[Edit::Drop(to), Edit::Keep(from)])?,
+        EditCommand::Look(3),
+        EditCommand::Undo,
+        EditCommand::Undo,
+        EditCommand::Undo,
+        EditCommand::Undo,
+        EditCommand::Look(3),
+        EditCommand::Bound,
+    ];
     let rows = [
         Told::Commit(1),
         Told::Commit(2),
@@ -106,35 +146,20 @@ fn undos_go_back_one_by_one(rt: HostRuntime) -> Result<(), Fail> {
         Told::Seen(5),
         Told::Bound(4, 5),
     ];
-    expect(&rt, played.replies.as_slice(), &rows)?;
-    expect_kept(&rt, &played.core.kept()?)
-}
-
-// All five segments of the start are kept again.
-fn expect_kept(rt: &impl Abort, kept: &[Pair]) -> Result<(), Fail> {
-    let full = [(0, 1), (0, 2), (1, 2), (1, 3), (2, 3)];
-    assert!(rt; kept.len() == full.len());
-    for (e, f) in kept.iter().zip(&full) {
-        assert!(rt; e.lo() == f.0 && e.hi() == f.1);
-    }
-    Ok(())
+    let played = expect_session(&rt, rt.alloc(), &[], &commands, &rows)?;
+    expect_start(&rt, &played.core.kept()?)
 }
 
 // A bound counts what each segment costs: a border pair of cost 7, and the diagonal of cost 3.
 #[test]
 fn bounds_count_costs(rt: HostRuntime) -> Result<(), Fail> {
-    let core = core_of(&rt, rt.alloc(), &SQUARE)?;
-    let mut list = Vec::new(rt.alloc());
-    list.push((pair(0, 1), 7u32))?;
-    list.push((pair(1, 2), 3u32))?;
-    let costs = costs_of(list)?;
-    let mut commands = Vec::new(rt.alloc());
-    commands.push(EditCommand::Bound)?;
-    commands.push(commit(&[Edit::Drop(pair(1, 2))])?)?;
-    commands.push(EditCommand::Bound)?;
-    commands.push(EditCommand::Undo)?;
-    commands.push(EditCommand::Bound)?;
-    let played = played(rt.alloc(), core, &costs, &commands)?;
+    let commands = [
+        EditCommand::Bound,
+        commit(&[Edit::Drop(pair(1, 2))])?,
+        EditCommand::Bound,
+        EditCommand::Undo,
+        EditCommand::Bound,
+    ];
     let rows = [
         Told::Bound(10, 13),
         Told::Commit(1),
@@ -142,13 +167,6 @@ fn bounds_count_costs(rt: HostRuntime) -> Result<(), Fail> {
         Told::Commit(2),
         Told::Bound(10, 13),
     ];
-    expect(&rt, played.replies.as_slice(), &rows)
-}
-
-fn costs_of(list: Vec<(Pair, u32)>) -> Result<Costs, Fail> {
-    if are_costs(&list) {
-        Ok(Costs::make(list))
-    } else {
-        Err(Fail::from("no list of costs"))
-    }
+    let _played = expect_session(&rt, rt.alloc(), &[(0, 1, 7), (1, 2, 3)], &commands, &rows)?;
+    Ok(())
 }

@@ -28,3 +28,9 @@ returns-then-fit-clause-answer c =
 
 pub returns-else-fit-clause-answer : goal.returns-else-fit-clause-answer
 returns-else-fit-clause-answer c = unfit c.args.points.now c.args.costs.now c.args.region.now c.args.edits.now c.in_ok-fit.fit c.in_ok-fit.ensures.fit c.if-fit.false
+
+pub returns-then-are_blocked-clause-answer : goal.returns-then-are_blocked-clause-answer
+returns-then-are_blocked-clause-answer c = λ fit. c.if-are_blocked.ensures refl fit.fit
+
+pub returns-then-are_blocked-clause-before : goal.returns-then-are_blocked-clause-before
+returns-then-are_blocked-clause-before c = as_before c.args.points.now c.args.region.now c.requires.held

@@ -34,3 +34,9 @@ returns-clause-answer c =
 
 pub returns-clause-before : goal.returns-clause-before
 returns-clause-before c = record { told = c.if-not-try_edits.ensures.back.told; points = c.if-not-try_edits.ensures.back.held.points }
+
+pub returns-then-are_blocked-clause-answer : goal.returns-then-are_blocked-clause-answer
+returns-then-are_blocked-clause-answer c = λ fit. c.if-are_blocked.ensures refl fit.fit
+
+pub returns-then-are_blocked-clause-before : goal.returns-then-are_blocked-clause-before
+returns-then-are_blocked-clause-before c = as_before c.args.points.now c.args.region.now c.requires.held

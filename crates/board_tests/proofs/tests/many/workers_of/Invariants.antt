@@ -1,8 +1,0 @@
-use Rattle.std.specs.Prelude.{◌≡◌}
-use Rattle.std.specs.List.{All, AllByRecursion}
-use Rattle.seats.specs.Seats.{SeatSeen}
-use Rattle.board_tests.specs.Workers.{IsReadyToWork}
-use Rattle.board_tests.proofs.tests.many.workers_of.Given as goal
-
-abbrev pub invariant-loop-seed : goal.invariant-loop-seed
-invariant-loop-seed l = All (IsReadyToWork l.board) l.workers.items × AllByRecursion (λ (p : SeatSeen). p.of ≡ l.board) l.passes.items

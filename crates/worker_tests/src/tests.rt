@@ -1,0 +1,4 @@
+mod answering;
+mod making;
+mod several;
+mod worked;

@@ -30,8 +30,8 @@ fn has_solution(proof: &Proof) -> bool
     }
 }
 
-/// Whether a proof is right, or the first part of it that fails, in the order of `ProofVerdict`. No convex partition costs
-/// less than what a right proof says is the least leaf value. (This project's own.)
+/// Whether a proof is right, or the first part of it that fails, in the order of `ProofVerdict`. No convex partition
+/// costs less than what a right proof says is the least leaf value. (This project's own.)
 pub fn check_proof(alloc: Global, proof: &Proof) -> Result<ProofVerdict, NoMemory>
     requires { IsProofWithin proof.now }
     ensures first { IfOk result (IsProofVerdict proof.now) }

@@ -1,5 +1,5 @@
-//! The check of a proof of a least cost: from the bytes of an input to a text, and whether it says yes, no, or refuses the
-//! input. The command `check-proof` stands on it.
+//! The check of a proof of a least cost: from the bytes of an input to a text, and whether it says yes, no, or refuses
+//! the input. The command `check-proof` stands on it.
 #![tactic(auto)]
 
 mod answer;

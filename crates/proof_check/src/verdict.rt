@@ -2,7 +2,8 @@
 use proof_io::StatedField;
 use tree_defs::TreeFault;
 
-/// Whether a proof is right, or the first part of it that fails. The parts stand in the order in which they are looked at.
+/// Whether a proof is right, or the first part of it that fails. The parts stand in the order in which they are looked
+/// at.
 #[derive(Clone, Copy, Debug, PartialEq, Eq)]
 pub enum ProofVerdict {
     /// All parts are right.

@@ -2,8 +2,8 @@
 use instance_io::InstanceFault;
 use solution_io::SolutionFault;
 
-/// Why a text isn't read as a proof: the number of its lines, or the first fault of the first faulty line. The faults of
-/// each line stand in the order in which they are looked for. (This project's own.)
+/// Why a text isn't read as a proof: the number of its lines, or the first fault of the first faulty line. The faults
+/// of each line stand in the order in which they are looked for. (This project's own.)
 #[derive(Debug, Drop, PartialEq, Eq)]
 pub enum ProofFault {
     /// The text hasn't four lines; it shows how many. An empty last line is none.
@@ -14,7 +14,8 @@ pub enum ProofFault {
     TooManyToProve(u32),
     /// Line 2 is no object, or its `instance_name` is missing or no string.
     NoSolutionName,
-    /// Line 2 is no solution over the points of the instance. `NotJson` comes before `NoSolutionName`, the others after it.
+    /// Line 2 is no solution over the points of the instance. `NotJson` comes before `NoSolutionName`, the others after
+    /// it.
     Solution(SolutionFault),
     /// Line 3 is no list of nodes.
     Tree(TreeLine),
@@ -33,7 +34,8 @@ pub enum TreeLine {
     NoTree,
     /// There are more than 20,000 nodes; it shows how many.
     TooManyNodes(u32),
-    /// The least place of an item that is no node with indices of points and numbers within the limits of a certificate.
+    /// The least place of an item that is no node with indices of points and numbers within the limits of a
+    /// certificate.
     BadNode(u32),
 }
 

@@ -1,4 +1,5 @@
-//! Reads and writes proofs of a least cost: an instance, a solution, a branch tree and what is said of them, one a line.
+//! Reads and writes proofs of a least cost: an instance, a solution, a branch tree and what is said of them, one a
+//! line.
 #![tactic(auto)]
 
 mod faults;

@@ -16,8 +16,8 @@ use serde_json::Value;
 use std::alloc::Global;
 use tree_defs::Node;
 
-// The node over points below n that a value is: `["b",i,j]`, `["x",i,j,k,l]`, `["r",i,j]`, `["n",p,q]` or `["p",q,[ROW,..]]`.
-// A pair may be written either way round; p and q of a need may be one.
+// The node over points below n that a value is: `["b",i,j]`, `["x",i,j,k,l]`, `["r",i,j]`, `["n",p,q]` or
+// `["p",q,[ROW,..]]`. A pair may be written either way round; p and q of a need may be one.
 pub(crate) fn node_of(alloc: Global, value: &Value, n: u32) -> Result<Option<Node>, NoMemory>
     ensures { IfOk result (λ o. option_map node_item o ≡ node_of n (view value.now)) }
 {

@@ -3,8 +3,8 @@ use instance_io::{Instance, Name};
 use plane::PairList;
 use tree_defs::NodeList;
 
-/// A proof: an instance, a solution under a name, the nodes of a branch tree, and what is said of them. None of them need be
-/// right. (This project's own.)
+/// A proof: an instance, a solution under a name, the nodes of a branch tree, and what is said of them. None of them
+/// need be right. (This project's own.)
 #[derive(Drop)]
 pub struct Proof {
     pub instance: Instance,

@@ -18,9 +18,9 @@ const LINES: usize = 4;
 /// The most points of an instance that is proved. (This project's own limit.)
 pub const MOST_TO_PROVE: u32 = 40;
 
-/// The proof that a text is, or its first fault: the number of its lines, or the first fault of the first faulty line. The
-/// bytes are cut at each LF, and an empty last piece is no line. Each line is read as JSON, whose numbers are rewritten
-/// first; other keys are ignored. (This project's own.)
+/// The proof that a text is, or its first fault: the number of its lines, or the first fault of the first faulty line.
+/// The bytes are cut at each LF, and an empty last piece is no line. Each line is read as JSON, whose numbers are
+/// rewritten first; other keys are ignored. (This project's own.)
 pub fn read_proof(alloc: Global, bytes: &[u8]) -> Result<Proof, ProofFault>
     ensures answer { MatchResult result (Gives bytes.now) (HasFault bytes.now) }
     ensures within { IfOk result IsProofWithin }

@@ -37,7 +37,8 @@ pub fn write_proof(alloc: Global, proof: &Proof) -> Result<Vec<u8>, NoMemory>
 
 fn push_instance(alloc: Global, text: &mut Vec<u8>, instance: &Instance) -> Result<(), NoMemory>
     ensures { IfOk result (λ _. text.new.items ≡ text.old.items
-        ++ line_text (with_costs (map cost_item instance.now.costs) (instance_data instance.now.name (map coordinates instance.now.points)))) }
+        ++ line_text (with_costs (map cost_item instance.now.costs)
+        (instance_data instance.now.name (map coordinates instance.now.points)))) }
 {
     let line = write_instance(alloc, instance)?;
     text.extend_from_slice(&line)?;
@@ -51,7 +52,8 @@ fn push_solution(
     name: &Name,
     pairs: &[Pair],
 ) -> Result<(), NoMemory>
-    ensures { IfOk result (λ _. text.new.items ≡ text.old.items ++ line_text (solution_data name.now (map ends pairs.now))) }
+    ensures { IfOk result (λ _. text.new.items
+        ≡ text.old.items ++ line_text (solution_data name.now (map ends pairs.now))) }
 {
     let line = write_solution(alloc, name, pairs)?;
     text.extend_from_slice(&line)?;
@@ -70,7 +72,8 @@ fn push_tree(alloc: Global, text: &mut Vec<u8>, nodes: &[Node]) -> Result<(), No
 
 // Appends the nodes and the bracket behind them.
 fn push_nodes(alloc: Global, text: &mut Vec<u8>, nodes: &[Node]) -> Result<(), NoMemory>
-    ensures { IfOk result (λ _. text.new.items ≡ text.old.items ++ list_text (map node_data (map node_item nodes.now))) }
+    ensures { IfOk result (λ _. text.new.items
+        ≡ text.old.items ++ list_text (map node_data (map node_item nodes.now))) }
 {
     for (place, node) in nodes.iter().enumerate() {
         push_node(alloc, text, place > 0, node)?;
@@ -81,7 +84,8 @@ fn push_nodes(alloc: Global, text: &mut Vec<u8>, nodes: &[Node]) -> Result<(), N
 
 // Appends a node, after a comma where it isn't the first.
 fn push_node(alloc: Global, text: &mut Vec<u8>, later: bool, node: &Node) -> Result<(), NoMemory>
-    ensures { IfOk result (λ _. text.new.items ≡ text.old.items ++ (comma_if later ++ compact_text (node_data (node_item node.now)))) }
+    ensures { IfOk result (λ _. text.new.items
+        ≡ text.old.items ++ (comma_if later ++ compact_text (node_data (node_item node.now)))) }
 {
     push_comma(text, later)?;
     let value = node_value(alloc, node)?;

@@ -107,10 +107,12 @@ fn entered(plain: &mut Plain, edits: &[Edit]) -> Result<u64, Fail> {
     if edits.len() < 1 || edits.len() > 8 {
         return Err(Fail::from("no list of edits"));
     }
-    let seq = (plain.journal.len() as u32).saturating_add(1);
+    let Ok(count) = u32::try_from(plain.journal.len()) else {
+        return Err(Fail::from("a journal beyond 32 bits"));
+    };
     plain.journal.push(Commit {
         caller: 1,
-        seq,
+        seq: count.saturating_add(1),
         edits: EditList::make(edits),
     })?;
     Ok(plain.journal.len() as u64)

@@ -65,7 +65,7 @@ fn any_commit(seed: u64) -> Result<EditCommand, Fail> {
 fn any_command(seed: u64) -> Result<EditCommand, Fail> {
     let second = next(seed);
     match below(seed, 12) {
-        0 | 1 => Ok(EditCommand::Look(below(second, 9) as u32)),
+        0 | 1 => Ok(EditCommand::Look((second / 1024 % 9) as u32)),
         2 | 3 => Ok(EditCommand::Undo),
         4 => Ok(EditCommand::Bound),
         _ => any_commit(next(second)),

@@ -1,0 +1,4 @@
+mod making;
+mod plain;
+mod random;
+mod worked;

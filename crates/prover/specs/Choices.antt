@@ -7,7 +7,7 @@ use Rattle.plane.specs.Geometry.{IsClear}
 use Rattle.price_defs.specs.declared.row.Row.TheVariants.{Half}
 use Rattle.price_defs.specs.Rows.{Counts}
 use Rattle.tree_defs.specs.Leaves.{Sets, IsLost, IsStarved}
-use Rattle.tree_defs.specs.Full.{IsUnmet, IsCandidate}
+use Rattle.tree_defs.specs.Full.{IsCandidate}
 
 -- no need of p is such that it can't be met, and no need of any point
 abbrev pub NoneStarvedAt : List Point → Sets → ℕ → Type 0
@@ -15,10 +15,6 @@ NoneStarvedAt S s p = (q : ℕ) → ¬ IsStarved S s p q
 
 abbrev pub NoneStarved : List Point → Sets → Type 0
 NoneStarved S s = (p q : ℕ) → ¬ IsStarved S s p q
-
--- the needs of p are met
-abbrev pub NoneUnmetAt : List Point → List Pair → ℕ → Type 0
-NoneUnmetAt S A p = (q : ℕ) → q < length S → ¬ IsUnmet S A p q
 
 -- the segment can't meet the need of p for q: it isn't clear, isn't in the need, or is lost
 abbrev pub IsNoCandidate : List Point → Sets → (p q i j : ℕ) → Type 0

@@ -4,6 +4,7 @@ use Rattle.std.specs.Prelude.{◌≡◌, ◌≤◌, ◌<◌, ◌+◌, ℕ, List,
 use Rattle.std.specs.List.{Contains}
 use Rattle.plane.specs.declared.coordinates.Point.{Point}
 use Rattle.plane.specs.declared.segment.Pair.{Pair}
+use Rattle.plane.specs.Accepted.{AreAccepted}
 use Rattle.plane.specs.Geometry.{IsBorderPair}
 use Rattle.partition_defs.specs.Partition.{MeetsNeeds}
 use Rattle.partition_defs.specs.Triangulation.{AreDistinct, IsBorderList}
@@ -23,6 +24,7 @@ use Rattle.prover.specs.declared.search.Step.TheVariants.{Closed, Named}
 
 -- what the search is given
 pub record IsGiven (S : List Point) (D : List Costed) (B : List Pair) (h limit : ℕ) (c : Certificate) : Type 0 where
+  pub accepted : AreAccepted S
   pub few : length S ≤ 40
   pub costs : (i j : ℕ) → cost D i j ≤ 1000
   pub border : IsBorderList S B

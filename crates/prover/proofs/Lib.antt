@@ -1,0 +1,3 @@
+mod Nodes
+mod Search
+mod Lists
